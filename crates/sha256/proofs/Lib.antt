@@ -1,0 +1,4 @@
+pub mod Blocks
+pub mod Endings
+pub mod Laws
+pub mod Rounds

@@ -1,0 +1,4 @@
+pub mod Faults
+pub mod Laws
+pub mod Sha256
+pub mod Writing

@@ -1,0 +1,15 @@
+// SHA-256 (FIPS 180-4) of a byte string of up to 16,777,216 bytes.
+mod compress;
+mod constants;
+mod fault;
+mod functions;
+mod message;
+mod padding;
+mod state;
+
+pub use fault::Sha256Fault;
+pub use fault::Sha256FaultDebug;
+pub use fault::Sha256FaultEq;
+pub use fault::Sha256FaultPartialEq;
+pub use message::definitions_stand;
+pub use message::sha256;
