@@ -1,5 +1,5 @@
 use mathlib.Core.Path.{ap}
-use Rattle.digest.proofs.Same.{same-digest}
+use Rattle.digest.proofs.Equality.{same-digest}
 use Rattle.digest.proofs.same.DigestPartialEq.eq.Needs as need
 
 pub returns-then-self-other : need.returns-then-self-other
