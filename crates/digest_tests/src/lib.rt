@@ -56,7 +56,13 @@ mod tests {
             (63, "A", 64, 3, 2),
             (63, "F", 64, 3, 2),
             (62, "é", 64, 3, 2),
-            (0, "BA7816BF8F01CFEA414140DE5DAE2223B00361A396177A9CB410FF61F20015AD", 64, 3, 2),
+            (
+                0,
+                "BA7816BF8F01CFEA414140DE5DAE2223B00361A396177A9CB410FF61F20015AD",
+                64,
+                3,
+                2,
+            ),
             (64, "", 64, 0, 0),
             (64, "", 64, 9_223_372_036_854_775_807, 0),
             (64, "", 64, -1, 3),
@@ -73,7 +79,19 @@ mod tests {
     #[test]
     fn the_text_of_a_hash_is_the_text_it_came_from(rt: LibcRuntime) -> Result<(), Fail> {
         let hash = Hash::from_text(ABC.as_bytes())?;
-        check(hash.words == [0xba7816bf, 0x8f01cfea, 0x414140de, 0x5dae2223, 0xb00361a3, 0x96177a9c, 0xb410ff61, 0xf20015ad])?;
+        check(
+            hash.words
+                == [
+                    0xba7816bf,
+                    0x8f01cfea,
+                    0x414140de,
+                    0x5dae2223,
+                    0xb00361a3,
+                    0x96177a9c,
+                    0xb410ff61,
+                    0xf20015ad,
+                ],
+        )?;
         check(hash == Hash::from_bytes(&hash.to_bytes()))?;
         check_eq(hash.to_bytes()[0], 0xba)?;
         check_eq(hash.to_bytes()[31], 0xad)?;

@@ -1,6 +1,6 @@
 // Runs NIST's byte-oriented test vectors of SHA-256: short and long messages, and the Monte Carlo test.
-mod monte;
 mod messages;
+mod monte;
 mod values;
 
 use crate::values::TallyDisplay;

@@ -1,4 +1,5 @@
-pub mod Blocks
+pub mod Absorbing
 pub mod Endings
 pub mod Laws
 pub mod Rounds
+pub mod Rows

@@ -13,11 +13,11 @@ use Rattle.hash.specs.Bytes.{word}
 use Rattle.sha256.specs.declared.state.State.{State}
 use Rattle.sha256.specs.Sha256.{K, next, entry, schedule, round, rounds}
 
-pub schedule-more : (m : List ℕ) (t : ℕ) → schedule m (t + 1) ≡ schedule m t ++ entry m t (schedule m t) ∷ []
+schedule-more : (m : List ℕ) (t : ℕ) → schedule m (t + 1) ≡ schedule m t ++ entry m t (schedule m t) ∷ []
 unfolding schedule
 schedule-more m t = ap (schedule m) (add-one t)
 
-pub length-schedule : (m : List ℕ) (t : ℕ) → length (schedule m t) ≡ t
+length-schedule : (m : List ℕ) (t : ℕ) → length (schedule m t) ≡ t
 unfolding schedule
 length-schedule m zero = refl
 length-schedule m (suc t) = length-push (schedule m t) (entry m t (schedule m t)) ∙ ap (λ n. n + 1) (length-schedule m t) ∙ add-one t
@@ -25,11 +25,11 @@ length-schedule m (suc t) = length-push (schedule m t) (entry m t (schedule m t)
 pub entry-first : (m : List ℕ) (t : ℕ) (w : List ℕ) → t < 16 → entry m t w ≡ word m t
 entry-first m t w h = ap (λ b. cond b (word m t) (next w t)) (lt-ltb t 16 h)
 
-pub entry-next : (m : List ℕ) (t : ℕ) (w : List ℕ) → 16 ≤ t → entry m t w ≡ next w t
+entry-next : (m : List ℕ) (t : ℕ) (w : List ℕ) → 16 ≤ t → entry m t w ≡ next w t
 entry-next m t w h = ap (λ b. cond b (word m t) (next w t)) (le-ltb t 16 h)
 
 -- the words that `next` reads stand before the word t
-pub next-front : (w : List ℕ) (t : ℕ) → 16 ≤ t → next (take t w) t ≡ next w t
+next-front : (w : List ℕ) (t : ℕ) → 16 ≤ t → next (take t w) t ≡ next w t
 next-front w t h =
     let a : t - 2 < t = omega arith in
     let b : t - 7 < t = omega arith in
@@ -37,8 +37,12 @@ next-front w t h =
     let d : t - 16 < t = omega arith in
     simp getD-take
 
+-- so it is the schedule's word, where w begins with the schedule
+pub next-of-front : (m w : List ℕ) (t : ℕ) → 16 ≤ t → take t w ≡ schedule m t → next w t ≡ entry m t (schedule m t)
+next-of-front m w t h so-far = sym (next-front w t h) ∙ ap (λ l. next l t) so-far ∙ sym (entry-next m t (schedule m t) h)
+
 -- the first t rounds read the first t words
-pub rounds-front : (s : State) (w v : List ℕ) (t : ℕ) → t ≤ length w → rounds s (w ++ v) t ≡ rounds s w t
+rounds-front : (s : State) (w v : List ℕ) (t : ℕ) → t ≤ length w → rounds s (w ++ v) t ≡ rounds s w t
 unfolding rounds
 rounds-front s w v zero h = refl
 rounds-front s w v (suc t) h =
@@ -51,6 +55,20 @@ rounds-more s w x t h =
     ap (rounds s (w ++ x ∷ [])) (add-one t)
     ∙ ap (λ r. round r (getD K t 0) (getD (w ++ x ∷ []) t 0)) (rounds-front s w (x ∷ []) t (omega arith))
     ∙ ap (round (rounds s w t) (getD K t 0)) (getD-push w x 0 t h)
+
+-- one word more behind those of the schedule so far
+pub words-more : (m w : List ℕ) (t x : ℕ) → t < length w → take t w ≡ schedule m t → x ≡ entry m t (schedule m t) → take (t + 1) (set w t x) ≡ schedule m (t + 1)
+words-more m w t x h so-far e =
+    take-more-set w t x h ∙ ap (λ l. l ++ x ∷ []) so-far ∙ ap (λ y. schedule m t ++ y ∷ []) e ∙ sym (schedule-more m t)
+
+-- one round more behind those so far
+pub state-more : (s₀ : State) (m : List ℕ) (s : State) (t k x : ℕ) (r : State) → s ≡ rounds s₀ (schedule m t) t → k ≡ getD K t 0 → r ≡ round s k x → x ≡ entry m t (schedule m t)
+    → r ≡ rounds s₀ (schedule m (t + 1)) (t + 1)
+state-more s₀ m s t k x r so-far is-k is-r e =
+    is-r ∙ ap (λ v. round v k x) so-far ∙ ap (λ v. round (rounds s₀ (schedule m t) t) v x) is-k
+    ∙ ap (round (rounds s₀ (schedule m t) t) (getD K t 0)) e
+    ∙ sym (rounds-more s₀ (schedule m t) (entry m t (schedule m t)) t (length-schedule m t))
+    ∙ ap (λ l. rounds s₀ l (t + 1)) (sym (schedule-more m t))
 
 -- t rounds of the block m are done: w holds the words so far, and s is what they made of s₀
 pub record Sofar (s₀ : State) (m w : List ℕ) (s : State) (t : ℕ) : Type 0 where
@@ -66,16 +84,16 @@ module _ (s₀ : State) (m w : List ℕ) (s : State) (t : ℕ) (so-far : Sofar s
   more : x ≡ entry m t (schedule m t) → Sofar s₀ m (set w t x) r (t + 1)
   more e = record {
     long = length-set w t x ∙ so-far .long;
-    words = take-more-set w t x (omega (arith, so-far .long)) ∙ ap (λ l. l ++ x ∷ []) (so-far .words) ∙ ap (λ y. schedule m t ++ y ∷ []) e ∙ sym (schedule-more m t);
-    state =
-        is-r ∙ ap (λ v. round v k x) (so-far .state) ∙ ap (λ v. round (rounds s₀ (schedule m t) t) v x) is-k
-        ∙ ap (round (rounds s₀ (schedule m t) t) (getD K t 0)) e
-        ∙ sym (rounds-more s₀ (schedule m t) (entry m t (schedule m t)) t (length-schedule m t))
-        ∙ ap (λ l. rounds s₀ l (t + 1)) (sym (schedule-more m t));
+    words = words-more m w t x (omega (arith, so-far .long)) (so-far .words) e;
+    state = state-more s₀ m s t k x r (so-far .state) is-k is-r e;
   }
 
   pub more-first : t < 16 → x ≡ word m t → Sofar s₀ m (set w t x) r (t + 1)
   more-first h e = more (e ∙ sym (entry-first m t (schedule m t) h))
 
   pub more-next : 16 ≤ t → x ≡ next w t → Sofar s₀ m (set w t x) r (t + 1)
-  more-next h e = more (e ∙ sym (next-front w t h) ∙ ap (λ l. next l t) (so-far .words) ∙ sym (entry-next m t (schedule m t) h))
+  more-next h e = more (e ∙ next-of-front m w t h (so-far .words))
+
+pub rounds-next : (s : State) (w : List ℕ) (t : ℕ) → rounds s w (t + 1) ≡ round (rounds s w t) (getD K t 0) (getD w t 0)
+unfolding rounds
+rounds-next s w t = ap (rounds s w) (add-one t)

@@ -1,4 +1,5 @@
 pub mod Faults
+pub mod Lanes
 pub mod Laws
 pub mod Sha256
 pub mod Writing

@@ -1,8 +1,8 @@
 ghost use mathlib.Core.Path.{_≡_};
-ghost use Prim.Native.Nat.{_/_, _<_, _≤_};
+ghost use Prim.Native.Nat.{_<_, _≤_};
 ghost use lib.ListN.{length};
 ghost use Rattle.hash.specs.Bytes.{word};
-ghost use Rattle.sha256.specs.Sha256.{next, compressed, absorbed};
+ghost use Rattle.sha256.specs.Sha256.{next, compressed};
 use crate::constants::round_constant;
 use crate::functions::small_sigma0;
 use crate::functions::small_sigma1;
@@ -27,17 +27,6 @@ impl State {
             s = s.round(round_constant(t), x);
         }
         self.plus(s)
-    }
-
-    // The hash value after the whole blocks of a text.
-    pub fn absorb(self, text: &[u8]) -> State
-        ensures { λ r. ⌜ r ≡ absorbed self (now (text .entry)) (length (now (text .entry)) / 64) ⌝ }
-    {
-        let mut s = self;
-        for block in text.chunks_exact(64) {
-            s = s.compress(block);
-        }
-        s
     }
 }
 

@@ -1,8 +1,10 @@
 // SHA-256 (FIPS 180-4) of a byte string of up to 16,777,216 bytes.
+mod blocks;
 mod compress;
 mod constants;
 mod fault;
 mod functions;
+mod lanes;
 mod message;
 mod padding;
 mod state;

@@ -30,5 +30,4 @@ pub fn definitions_stand()
     ensures padding { λ _. ⌜ Fewest-zeros ⌝ ∗ ⌜ Whole-blocks ⌝ }
     ensures hashes { λ _. ⌜ Hashes ⌝ }
     ensures constants { λ _. ⌜ Constants-are-roots ⌝ }
-{
-}
+{}

@@ -76,7 +76,14 @@ impl State {
     {
         Hash {
             words: [
-                self.a, self.b, self.c, self.d, self.e, self.f, self.g, self.h,
+                self.a,
+                self.b,
+                self.c,
+                self.d,
+                self.e,
+                self.f,
+                self.g,
+                self.h,
             ],
         }
     }

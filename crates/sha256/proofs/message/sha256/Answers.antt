@@ -7,7 +7,7 @@ use Rattle.std.proofs.shelf.Lists.{take-rest}
 use Rattle.std.proofs.shelf.Tests.{le-leb, cond-true}
 use Rattle.std.specs.declared.result.Result.the-variants.{Ok}
 use Rattle.sha256.specs.Sha256.{H₀, absorbed, padded, padding, words, sha256}
-use Rattle.sha256.proofs.Blocks.{in-two-parts}
+use Rattle.sha256.proofs.Absorbing.{in-two-parts}
 use Rattle.sha256.proofs.message.sha256.Needs as need
 
 pub returns : need.returns

@@ -11,11 +11,11 @@ use Rattle.std.proofs.shelf.Lists.{take-at, take-append-le, drop-append-le, dro
 use Rattle.sha256.specs.declared.state.State.{State}
 use Rattle.sha256.specs.Sha256.{H₀, block, compressed, absorbed, padding, padded}
 
-absorbed-none : (s : State) (m : List ℕ) → absorbed s m 0 ≡ s
+pub absorbed-none : (s : State) (m : List ℕ) → absorbed s m 0 ≡ s
 unfolding absorbed
 absorbed-none s m = refl
 
-absorbed-more : (s : State) (m : List ℕ) (n : ℕ) → absorbed s m (n + 1) ≡ compressed (absorbed s m n) (block m n)
+pub absorbed-more : (s : State) (m : List ℕ) (n : ℕ) → absorbed s m (n + 1) ≡ compressed (absorbed s m n) (block m n)
 unfolding absorbed
 absorbed-more s m n = ap (absorbed s m) (add-one n)
 
@@ -57,30 +57,19 @@ in-two-parts m x y ex ey =
     ∙ ap (λ l. absorbed H₀ l (length x / 64 + length y / 64)) whole
     ∙ ap (absorbed H₀ (m ++ padding (length m))) (sym count)
 
--- n blocks of the text are absorbed, and the rest is left
-pub record Absorbing (s₀ : State) (text : List ℕ) (s : State) (rest : List ℕ) (n : ℕ) : Type 0 where
-  pub state : s ≡ absorbed s₀ text n
-  pub left : rest ≡ drop (64 * n) text
-  pub within : 64 * n ≤ length text
-
-pub absorbing-none : (s₀ : State) (text rest : List ℕ) → rest ≡ text → Absorbing s₀ text s₀ rest 0
-absorbing-none s₀ text rest e = record { state = sym (absorbed-none s₀ text); left = e; within = omega arith }
-
-pub absorbing-more : (s₀ : State) (text : List ℕ) (s : State) (rest : List ℕ) (n k : ℕ) → Absorbing s₀ text s rest n → (x after : List ℕ) (r : State)
-    → rest ≡ x ++ after → length x ≡ 64 → r ≡ compressed s x → k ≡ n + 1 → Absorbing s₀ text r after k
-absorbing-more s₀ text s rest n k h x after r split long is next =
-    let here : x ++ after ≡ drop (64 * n) text = sym split ∙ h .left in
-    let whole : 64 + length after ≡ length text - 64 * n = ap (λ l. l + length after) (sym long) ∙ sym (length-append x after) ∙ ap length here ∙ length-drop (64 * n) text in
-    let first : x ≡ block text n = sym (take-at x after 64 long) ∙ ap (take 64) here in
-    let far : 64 * n + 64 ≡ 64 * k = omega arith in
-    record {
-      state = is ∙ ap (λ t. compressed t x) (h .state) ∙ ap (compressed (absorbed s₀ text n)) first ∙ sym (absorbed-more s₀ text n) ∙ ap (absorbed s₀ text) (sym next);
-      left = sym (drop-at x after 64 long) ∙ ap (drop 64) here ∙ drop-drop 64 (64 * n) text ∙ ap (λ i. drop i text) far;
-      within = omega (arith, h .within);
-    }
-
-pub absorbing-all : (s₀ : State) (text : List ℕ) (s : State) (rest : List ℕ) (n : ℕ) → Absorbing s₀ text s rest n → length rest < 64 → s ≡ absorbed s₀ text (length text / 64)
-absorbing-all s₀ text s rest n h short =
-    let left : length rest ≡ length text - 64 * n = ap length (h .left) ∙ length-drop (64 * n) text in
-    let count : n ≡ length text / 64 = omega (arith, h .within) in
-    h .state ∙ ap (absorbed s₀ text) count
+-- blocks in the middle of a text, absorbed as a text of their own
+pub absorbed-part : (s₀ : State) (m : List ℕ) (s r : State) (n p k at : ℕ) → 64 * (n + p) ≤ length m → at ≡ 64 * n → s ≡ absorbed s₀ m n → r ≡ absorbed s (take (64 * p) (drop at m)) p → k ≡ n + p
+    → r ≡ absorbed s₀ m k
+absorbed-part s₀ m s r n p k at within is-at so-far is-r is-k =
+    let x = take (64 * n) m in
+    let y = drop (64 * n) m in
+    let left : 64 * p ≤ length y = simp length-drop (omega arith) in
+    let long : 64 * p ≤ length (take (64 * p) y) = omega (arith, length-take-le (64 * p) y left) in
+    let whole : x ++ y ≡ m = take-append-drop (64 * n) m in
+    let front : absorbed s₀ x n ≡ absorbed s₀ m n =
+    sym (absorbed-front s₀ x y n (omega (arith, length-take-le (64 * n) m (omega arith)))) ∙ ap (λ l. absorbed s₀ l n) whole in
+    is-r ∙ ap (λ a. absorbed s (take (64 * p) (drop a m)) p) is-at
+    ∙ sym (absorbed-front s (take (64 * p) y) (drop (64 * p) y) p long) ∙ ap (λ l. absorbed s l p) (take-append-drop (64 * p) y)
+    ∙ ap (λ v. absorbed v y p) (so-far ∙ sym front)
+    ∙ sym (absorbed-append s₀ x y n p (length-take-le (64 * n) m (omega arith)))
+    ∙ ap (λ l. absorbed s₀ l (n + p)) whole ∙ ap (absorbed s₀ m) (sym is-k)
