@@ -22,11 +22,11 @@ use Rattle.sha256.proofs.Rounds.{entry-first, next-of-front, words-more, state
 -- a σ of a row by shifts is that of each lane
 pub row-sigma : (p q n : ℕ) (x : List ℕ) → length x ≡ 4
     → zip2 bitXor
-        (zip2 bitXor
-            (zip2 bitOr (zip2 (λ a b. a / 2 ^ b) x (replicate 4 p)) (zip2 (λ a b. a * 2 ^ b % 2 ^ 32) x (replicate 4 (32 - p))))
-            (zip2 bitOr (zip2 (λ a b. a / 2 ^ b) x (replicate 4 q)) (zip2 (λ a b. a * 2 ^ b % 2 ^ 32) x (replicate 4 (32 - q)))))
-        (zip2 (λ a b. a / 2 ^ b) x (replicate 4 n))
-      ≡ map (λ a. bitXor (bitXor (rotr p a) (rotr q a)) (shr n a)) x
+    (zip2 bitXor
+    (zip2 bitOr (zip2 (λ a b. a / 2 ^ b) x (replicate 4 p)) (zip2 (λ a b. a * 2 ^ b % 2 ^ 32) x (replicate 4 (32 - p))))
+    (zip2 bitOr (zip2 (λ a b. a / 2 ^ b) x (replicate 4 q)) (zip2 (λ a b. a * 2 ^ b % 2 ^ 32) x (replicate 4 (32 - q)))))
+    (zip2 (λ a b. a / 2 ^ b) x (replicate 4 n))
+    ≡ map (λ a. bitXor (bitXor (rotr p a) (rotr q a)) (shr n a)) x
 row-sigma p q n [] h = refl
 row-sigma p q n (a ∷ []) h = refl
 row-sigma p q n (a ∷ b ∷ []) h = refl

@@ -74,17 +74,18 @@ impl State {
     pub fn to_hash(self) -> Hash
         ensures { λ r. ⌜ r .words ≡ wordsOf self ⌝ }
     {
+        let State {
+            a,
+            b,
+            c,
+            d,
+            e,
+            f,
+            g,
+            h,
+        } = self;
         Hash {
-            words: [
-                self.a,
-                self.b,
-                self.c,
-                self.d,
-                self.e,
-                self.f,
-                self.g,
-                self.h,
-            ],
+            words: [a, b, c, d, e, f, g, h],
         }
     }
 }
