@@ -147,17 +147,20 @@ module _ (s₀ : State) (m : List ℕ) (w v : List (List ℕ)) (s : State) (t : 
       let row = next-in-lanes w t (ready .long) (ready .rows) h below in
       more (nextRow w t) is-v (row .0) (λ l l4. row .1 l l4 ∙ next-of-front (block m l) (lane w l) t h (ready .words l l4)) e
 
+pub all-rows : (s₀ : State) (m : List ℕ) (w : List (List ℕ)) (s : State) (t : ℕ) → t ≡ 64 → Ready s₀ m w s t → Ready s₀ m w s 64
+all-rows s₀ m w s t e ready = subst (Ready s₀ m w s) e ready
+
 -- once all rows are filled: the first block by its rounds, and each other by its lane
 module _ (s₀ : State) (m : List ℕ) (w : List (List ℕ)) (s : State) (ready : Ready s₀ m w s 64) where
   pub first-absorbed : (r : State) → r ≡ sum s₀ s → r ≡ absorbed s₀ m 1
   unfolding compressed
   first-absorbed r e = e ∙ ap (sum s₀) (ready .state) ∙ ap (λ v. compressed v (block m 0)) (sym (absorbed-none s₀ m)) ∙ sym (absorbed-more s₀ m 0)
 
-  pub lane-absorbed : (l : ℕ) (v r : State) → l < 4 → v ≡ absorbed s₀ m l → r ≡ sum v (rounds v (lane w l) 64) → r ≡ absorbed s₀ m (l + 1)
+  pub lane-absorbed : (s₁ : State) (l : ℕ) (v r : State) → l < 4 → v ≡ absorbed s₁ m l → r ≡ sum v (rounds v (lane w l) 64) → r ≡ absorbed s₁ m (l + 1)
   unfolding compressed
-  lane-absorbed l v r h so-far e =
+  lane-absorbed s₁ l v r h so-far e =
       let whole : lane w l ≡ schedule (block m l) 64 = sym (take-all 64 (lane w l) (omega (arith, length-map w (λ row. getD row l 0), ready .long))) ∙ ready .words l h in
-      e ∙ ap (λ ws. sum v (rounds v ws 64)) whole ∙ ap (λ u. compressed u (block m l)) so-far ∙ sym (absorbed-more s₀ m l)
+      e ∙ ap (λ ws. sum v (rounds v ws 64)) whole ∙ ap (λ u. compressed u (block m l)) so-far ∙ sym (absorbed-more s₁ m l)
 
 -- one round more over a lane
 pub lane-more : (s₀ : State) (w : List (List ℕ)) (s r : State) (l t n : ℕ) → t < length w → s ≡ rounds s₀ (lane w l) t → r ≡ round s (getD K t 0) (getD (getD w t []) l 0) → n ≡ t + 1

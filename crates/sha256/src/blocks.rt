@@ -47,10 +47,11 @@ impl State {
                 .round(round_constant(t + 2), extend(&mut w, t + 2))
                 .round(round_constant(t + 3), extend(&mut w, t + 3));
         }
-        self.plus(s)
-            .absorb_lane(&w, 1)
-            .absorb_lane(&w, 2)
-            .absorb_lane(&w, 3)
+        s = self.plus(s);
+        for lane in 1..4 {
+            s = s.absorb_lane(&w, lane);
+        }
+        s
     }
 
     // The hash value after one block more, by its lane of the table.

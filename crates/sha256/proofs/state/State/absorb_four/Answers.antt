@@ -1,8 +1,9 @@
-use mathlib.Core.Path.{_≡_, refl, subst}
+use mathlib.Core.Path.{_≡_, refl, ap, _∙_}
 use Prim.Native.Nat.{ℕ, _+_, _*_, _<_}
 use native.Mathlib.Omega.{arith}
-use lib.Dec.{lit<}
-use Rattle.sha256.proofs.Rows.{Ready, ready-none, ready-first, ready-next, first-absorbed, lane-absorbed}
+use lib.Dec.{lit≤}
+use Rattle.sha256.specs.Sha256.{absorbed}
+use Rattle.sha256.proofs.Rows.{ready-none, ready-first, ready-next, all-rows, first-absorbed, lane-absorbed}
 use Rattle.sha256.proofs.state.State.absorb_four.Needs as need
 
 pub loop-i-holds : need.loop-i-holds
@@ -28,14 +29,19 @@ loop-j-again c =
     let three = ready-next s₀ m _ _ _ (t + 2) two (omega arith) _ _ (t + 3) _ (c .round-constant-in-loop-j-3 .ensures) (c .round-in-loop-j-3 .ensures) (omega arith) (omega (arith, c .loop-j .kept .j)) (c .extend-in-loop-j-2 .ensures .table) (c .extend-in-loop-j-2 .ensures .word) in
     ready-next s₀ m _ _ _ (t + 3) three (omega arith) _ _ (4 * (c .loop-j .j + 1)) _ (c .round-constant-in-loop-j-4 .ensures) (c .round-s-in-loop-j .ensures) (omega arith) (omega (arith, c .loop-j .kept .j)) (c .extend-in-loop-j-3 .ensures .table) (c .extend-in-loop-j-3 .ensures .word)
 
+pub loop-lane-holds : need.loop-lane-holds
+loop-lane-holds c = λ s₁ e. e
+
+pub loop-lane-again : need.loop-lane-again
+loop-lane-again c = λ s₁ e.
+    let m = c .args .blocks .now in
+    let all = all-rows (c .args .self) m (c .loop-j .w) (c .loop-j .s) (4 * c .loop-j .j) (omega arith) (c .loop-j .inv) in
+    lane-absorbed (c .args .self) m (c .loop-j .w) (c .loop-j .s) all s₁ (c .loop-lane .lane) _ _ (c .loop-lane-test .taken) (c .loop-lane .inv s₁ e) (c .absorb-lane-s .ensures)
+
 pub returns : need.returns
 returns c =
     let s₀ = c .args .self in
     let m = c .args .blocks .now in
-    let w = c .loop-j .w in
-    let end : 4 * c .loop-j .j ≡ 64 = omega arith in
-    let all : Ready s₀ m w (c .loop-j .s) 64 = subst (Ready s₀ m w (c .loop-j .s)) end (c .loop-j .inv) in
-    let one = first-absorbed s₀ m w (c .loop-j .s) all _ (c .plus .ensures) in
-    let two = lane-absorbed s₀ m w (c .loop-j .s) all 1 _ _ (lit< tt) one (c .absorb-lane .ensures) in
-    let three = lane-absorbed s₀ m w (c .loop-j .s) all 2 _ _ (lit< tt) two (c .absorb-lane-2 .ensures) in
-    lane-absorbed s₀ m w (c .loop-j .s) all 3 _ _ (lit< tt) three (c .absorb-lane-3 .ensures)
+    let all = all-rows s₀ m (c .loop-j .w) (c .loop-j .s) (4 * c .loop-j .j) (omega arith) (c .loop-j .inv) in
+    let end : c .loop-lane .lane ≡ 4 = omega (arith, c .loop-lane .kept .lane-end (lit≤ tt)) in
+    c .loop-lane .inv s₀ (first-absorbed s₀ m (c .loop-j .w) (c .loop-j .s) all _ (c .plus-s .ensures)) ∙ ap (absorbed s₀ m) end
