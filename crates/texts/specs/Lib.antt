@@ -1,0 +1,3 @@
+pub mod Names
+pub mod Order
+pub mod Utf8
