@@ -1,5 +1,5 @@
 -- A hash and its text determine each other. Assumes nothing.
-use mathlib.Core.Path.{_≡_, refl, sym, ap, _∙_}
+use mathlib.Core.Path.{_≡_, refl, sym, ap, subst, _∙_}
 use mathlib.Core.Bool.{Bool, true, false, cond, _&&_}
 use mathlib.Core.List.{List, [], _∷_, _++_}
 use Prim.Native.Nat.{ℕ, zero, suc, _+_, _-_, _*_, _/_, _%_, _^_, _≤_, _<_}
@@ -187,6 +187,25 @@ bytes-of-words-of bs h l =
     ∙ ap (λ x. w 0 ++ x) (at 1 (omega arith))
     ∙ at 0 (omega arith)
 
+word-below : (bs : List ℕ) → Bytes bs → (i : ℕ) → word bs i < 2 ^ 32
+word-below bs h i =
+    let a = byte-at bs h (4 * i) in
+    let b = byte-at bs h (4 * i + 1) in
+    let c = byte-at bs h (4 * i + 2) in
+    let d = byte-at bs h (4 * i + 3) in
+    omega arith
+
+words-below : (bs : List ℕ) → Bytes bs → (i : ℕ) → getD (wordsOf bs) i 0 < 2 ^ 32
+words-below bs h zero = word-below bs h 0
+words-below bs h (suc zero) = word-below bs h 1
+words-below bs h (suc (suc zero)) = word-below bs h 2
+words-below bs h (suc (suc (suc zero))) = word-below bs h 3
+words-below bs h (suc (suc (suc (suc zero)))) = word-below bs h 4
+words-below bs h (suc (suc (suc (suc (suc zero))))) = word-below bs h 5
+words-below bs h (suc (suc (suc (suc (suc (suc zero)))))) = word-below bs h 6
+words-below bs h (suc (suc (suc (suc (suc (suc (suc zero))))))) = word-below bs h 7
+words-below bs h (suc (suc (suc (suc (suc (suc (suc (suc i)))))))) = lit< tt
+
 pub text-is-read-back : Text-is-read-back
 text-is-read-back ws h =
     let bytes = bytes-of-words ws in
@@ -203,4 +222,5 @@ text-is-the-only-one t ws e =
     let got = is-text (isHashText t) (wordsOf (spelled t)) ws e in
     let tests = and-parts _ _ (got .0) in
     let read = pairs-spelled 32 t (eqb-true _ _ (tests .0)) (tests .1) in
-    sym (ap textOf (got .1)) ∙ ap (joined hexPair) (bytes-of-words-of (spelled t) (read .1) (read .2)) ∙ read .0
+    let hash : IsHash (wordsOf (spelled t)) = (refl, words-below (spelled t) (read .1)) in
+    (subst IsHash (got .1) hash, sym (ap textOf (got .1)) ∙ ap (joined hexPair) (bytes-of-words-of (spelled t) (read .1) (read .2)) ∙ read .0)

@@ -58,4 +58,4 @@ Text-is-read-back = (ws : List ℕ) → IsHash ws → hashOf (textOf ws) ≡ Ok 
 
 -- each text that is read is the text of its hash, so that no hash has two texts
 abbrev pub Text-is-the-only-one : Type 0
-Text-is-the-only-one = (t ws : List ℕ) → hashOf t ≡ Ok ws → textOf ws ≡ t
+Text-is-the-only-one = (t ws : List ℕ) → hashOf t ≡ Ok ws → IsHash ws × (textOf ws ≡ t)
