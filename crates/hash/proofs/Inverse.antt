@@ -206,11 +206,13 @@ words-below bs h (suc (suc (suc (suc (suc (suc zero)))))) = word-below bs h 6
 words-below bs h (suc (suc (suc (suc (suc (suc (suc zero))))))) = word-below bs h 7
 words-below bs h (suc (suc (suc (suc (suc (suc (suc (suc i)))))))) = lit< tt
 
+pub text-length : (ws : List ℕ) → IsHash ws → length (textOf ws) ≡ 64
+text-length ws h = omega (arith, length-pairs (bytesOf ws), length-bytes ws, h .0)
+
 pub text-is-read-back : Text-is-read-back
 text-is-read-back ws h =
     let bytes = bytes-of-words ws in
-    let long : length (textOf ws) ≡ 64 = omega (arith, length-pairs (bytesOf ws), length-bytes ws, h .0) in
-    cond-true (isHashText (textOf ws)) _ _ (and-from _ _ (eq-eqb _ _ long) (pairs-are-hex (bytesOf ws) bytes))
+    cond-true (isHashText (textOf ws)) _ _ (and-from _ _ (eq-eqb _ _ (text-length ws h)) (pairs-are-hex (bytesOf ws) bytes))
     ∙ ap (λ bs. Ok (wordsOf bs)) (spelled-pairs (bytesOf ws) bytes) ∙ ap Ok (words-of-bytes ws h)
 
 is-text : (b : Bool) (ws vs : List ℕ) → _≡_ {A = Result (List ℕ) ℕ} (cond b (Ok ws) (Err 2)) (Ok vs) → (b ≡ true) × (ws ≡ vs)

@@ -8,7 +8,7 @@ use native.Mathlib.Omega.{arith}
 use lib.Dec.{ltb, eqb}
 use lib.ListN.{length, drop, length-append}
 use Rattle.std.proofs.shelf.Bits.{pow-pos, div-below}
-use Rattle.std.proofs.shelf.Tests.{cases-lt, cases-eq, eq-eqb, ne-eqb, cond-true, cond-false, lt-ltb, le-ltb}
+use Rattle.std.proofs.shelf.Tests.{cases-lt, cases-eq, eq-eqb, ne-eqb, cond-true, cond-false, cond-both, lt-ltb, le-ltb}
 use Rattle.std.specs.declared.option.Option.{Option}
 use Rattle.std.specs.declared.option.Option.the-variants.{Some, None}
 use Rattle.wire.specs.Numbers.{formIn, form, onto, frontIn, front, Number-is-read-back, Form-is-the-only-one}
@@ -22,6 +22,14 @@ form-small (suc m) n h = cond-true (ltb n 128) _ _ (lt-ltb n 128 h)
 
 pub form-large : (m n : ℕ) → 128 ≤ n → formIn (suc m) n ≡ (128 + n % 128) ∷ formIn m (n / 128)
 form-large m n h = cond-false (ltb n 128) _ _ (le-ltb n 128 h)
+
+form-in-length : (m n : ℕ) → length (formIn m n) ≤ m + 1
+form-in-length zero n = omega arith
+form-in-length (suc m) n = cond-both (ltb n 128) _ _ (λ l. length l ≤ suc m + 1) (λ low. omega arith) (λ high. omega (arith, form-in-length m (n / 128)))
+
+pub form-length : (n : ℕ) → length (form n) ≤ 10
+unfolding form
+form-length n = form-in-length 9 n
 
 front-low : (k b : ℕ) (bs : List ℕ) → b < 128 → frontIn (suc k) (b ∷ bs) ≡ Some (b, 1)
 front-low k b bs h = cond-true (ltb b 128) _ _ (lt-ltb b 128 h)

@@ -1,3 +1,4 @@
+pub mod Fieldings
 pub mod Filling
 pub mod Finding
 pub mod Forms

@@ -1,0 +1,5 @@
+pub mod Digests
+pub mod Endings
+pub mod Kinds
+pub mod Names
+pub mod Values
