@@ -1,21 +1,21 @@
 -- A hash and its text determine each other. Assumes nothing.
 use mathlib.Core.Path.{_≡_, refl, sym, ap, subst, _∙_}
-use mathlib.Core.Bool.{Bool, true, false, cond, _&&_}
+use mathlib.Core.Bool.{Bool, true, false, cond}
 use mathlib.Core.List.{List, [], _∷_, _++_}
-use Prim.Native.Nat.{ℕ, zero, suc, _+_, _-_, _*_, _/_, _%_, _^_, _≤_, _<_}
+use Prim.Native.Nat.{ℕ, zero, suc, _+_, _-_, _*_, _/_, _%_, _^_, _<_}
 use native.Mathlib.Nat.{div-div-eq-div-mul, mod-eq-of-lt}
 use native.Mathlib.Omega.{arith}
-use lib.Dec.{eqb, ltb, leb, lit<}
-use lib.ListN.{length, getD, drop, length-append}
+use lib.Dec.{lit<}
+use lib.ListN.{length, getD, drop}
 use Rattle.std.proofs.shelf.Bits.{div-add-mod', div-below}
-use Rattle.std.proofs.shelf.Lists.{drop-more, drop-all, same-lists}
+use Rattle.std.proofs.shelf.Lists.{drop-more, drop-all}
 use Rattle.std.proofs.shelf.Tests.{and-parts, and-from, eq-eqb, eqb-true, cond-true}
 use Rattle.std.proofs.shelf.Ways.{tells}
 use Rattle.std.specs.Joined.{joined}
 use Rattle.std.specs.declared.result.Result.{Result}
 use Rattle.std.specs.declared.result.Result.the-variants.{Ok, Err}
 use Rattle.hash.specs.Bytes.{word, four, wordsOf, bytesOf}
-use Rattle.hash.specs.Text.{hexDigit, hexPair, textOf, isHex, everyHex, isHashText, hexValue, spelled, hashOf, IsHash, Text-is-read-back, Text-is-the-only-one}
+use Rattle.hash.specs.Text.{hexDigit, hexPair, textOf, isHex, everyHex, isHashText, hexValue, spelled, IsHash, Text-is-read-back, Text-is-the-only-one}
 
 -- each is a byte
 abbrev Bytes : List ℕ → Type 0

@@ -1,17 +1,15 @@
 -- A Digest message, read where it lies. Assumes nothing.
 use mathlib.Core.Path.{_≡_, refl, sym, ap, _∙_}
 use mathlib.Core.List.{List}
-use Prim.Native.Nat.{ℕ, _+_, _-_, _^_}
-use lib.ListN.{length, drop}
+use Prim.Native.Nat.{ℕ, _-_, _^_}
+use lib.ListN.{drop}
 use Rattle.std.specs.declared.result.Result.{Result}
 use Rattle.std.specs.declared.result.Result.the-variants.{Ok, Err}
-use Rattle.digest.specs.Digests.{Value}
 use Rattle.hash.specs.Faults.{reported}
 use Rattle.hash.specs.Text.{hashOf}
 use Rattle.hash.specs.declared.fault.HashTextFault.{HashTextFault}
 use Rattle.hash.specs.declared.hash.Hash.{Hash}
 use Rattle.wire.specs.declared.field.Span.{Span}
-use Rattle.wire.specs.Fields.{Piece}
 use Rattle.wire.specs.Refusals.{Refusal, refused, next}
 use Rattle.wire.proofs.Finding.{Found}
 use Rattle.nodes.specs.Digests.{sizeThen, hashThen, digestAt}

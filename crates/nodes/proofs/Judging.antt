@@ -2,15 +2,15 @@
 use mathlib.Core.Path.{_≡_, sym, ap, _∙_}
 use mathlib.Core.List.{List}
 use mathlib.Core.Bool.{true, false}
-use Prim.Native.Nat.{ℕ, _+_}
-use lib.ListN.{length, drop}
+use Prim.Native.Nat.{ℕ}
+use lib.ListN.{drop}
 use Rattle.std.proofs.shelf.Tests.{cond-true, cond-false}
 use Rattle.std.specs.declared.result.Result.{Result}
 use Rattle.std.specs.declared.result.Result.the-variants.{Ok}
 use Rattle.texts.specs.Names.{isName, isTarget}
 use Rattle.texts.specs.Utf8.{isText}
 use Rattle.wire.specs.declared.field.Span.{Span}
-use Rattle.wire.specs.Fields.{Piece, spanOf, spanned}
+use Rattle.wire.specs.Fields.{spanned}
 use Rattle.wire.specs.Refusals.{Refusal, refused, next}
 use Rattle.wire.proofs.Finding.{Found}
 use Rattle.nodes.specs.Kinds.{part, judgedTarget, linkReads}

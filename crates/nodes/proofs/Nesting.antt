@@ -1,5 +1,5 @@
 -- A Digest message inside a node's message. Assumes nothing.
-use mathlib.Core.Path.{_≡_, refl, sym, ap, _∙_}
+use mathlib.Core.Path.{_≡_, sym, ap, _∙_}
 use mathlib.Core.List.{List}
 use Prim.Native.Nat.{ℕ, _+_, _-_, _≤_}
 use native.Mathlib.Omega.{arith}
@@ -10,8 +10,7 @@ use Rattle.std.specs.declared.result.Result.{Result}
 use Rattle.std.specs.declared.result.Result.the-variants.{Ok, Err}
 use Rattle.digest.specs.Digests.{Value}
 use Rattle.wire.specs.declared.field.Span.{Span}
-use Rattle.wire.specs.Fields.{Piece}
-use Rattle.wire.specs.Refusals.{Refusal, refused, next}
+use Rattle.wire.specs.Refusals.{Refusal, next}
 use Rattle.wire.proofs.Finding.{Found}
 use Rattle.nodes.specs.Digests.{digestAt}
 use Rattle.nodes.specs.Endings.{ended, lastNumber}

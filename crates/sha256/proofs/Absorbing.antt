@@ -1,13 +1,13 @@
 -- The blocks of a text, one after the other. Assumes nothing.
 use mathlib.Core.Path.{_≡_, refl, sym, ap, _∙_}
 use mathlib.Core.List.{List, _++_, append-assoc}
-use Prim.Native.Nat.{ℕ, zero, suc, _+_, _-_, _*_, _/_, _≤_, _<_}
+use Prim.Native.Nat.{ℕ, zero, suc, _+_, _-_, _*_, _/_, _≤_}
 use native.Mathlib.Nat.{add-zero, add-suc}
 use native.Mathlib.Numerals.{add-one}
 use native.Mathlib.Omega.{arith}
 use lib.ListN.{length, take, drop, length-drop, length-append, take-append-drop}
 use lib.Seq.{length-take-le}
-use Rattle.std.proofs.shelf.Lists.{take-at, take-append-le, drop-append-le, drop-at, drop-drop}
+use Rattle.std.proofs.shelf.Lists.{take-append-le, drop-append-le, drop-at, drop-drop}
 use Rattle.sha256.specs.declared.state.State.{State}
 use Rattle.sha256.specs.Sha256.{H₀, block, compressed, absorbed, padding, padded}
 

@@ -1,15 +1,15 @@
 -- What the definitions of SHA-256 give. Assumes nothing.
 use mathlib.Core.Path.{_≡_, refl, ap, _∙_}
 use mathlib.Core.Bool.{Bool, true, false, cond, _&&_}
-use mathlib.Core.List.{List, [], _∷_, _++_}
-use Prim.Native.Nat.{ℕ, zero, suc, _+_, _*_, _/_, _%_, _^_, _≤_, _<_}
+use mathlib.Core.List.{List, [], _∷_}
+use Prim.Native.Nat.{ℕ, zero, suc, _+_, _*_, _/_, _^_, _<_}
 use native.Mathlib.Omega.{arith}
 use lib.Dec.{leb, ltb, lit<}
-use lib.ListN.{length, getD, take, drop, length-append}
+use lib.ListN.{length, getD, length-append}
 use Rattle.std.proofs.shelf.Bits.{mod-below}
 use Rattle.std.proofs.shelf.Tests.{and-parts, leb-true, ltb-true}
 use Rattle.sha256.specs.declared.state.State.{State}
-use Rattle.sha256.specs.Laws.{Examples, Fewest-zeros, Whole-blocks, Hashes, Roots, RootBits, primes, Constants-are-roots}
+use Rattle.sha256.specs.Laws.{Examples, Fewest-zeros, Whole-blocks, Hashes, Roots, primes, Constants-are-roots}
 use Rattle.sha256.specs.Sha256.{K, H₀, plus, zeros, eight, marked, padding, padded, block, schedule, rounds, sum, compressed, absorbed, words, sha256}
 use Rattle.sha256.proofs.Endings.{length-marked}
 

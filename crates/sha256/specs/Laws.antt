@@ -1,10 +1,8 @@
 -- What the definitions of SHA-256 must give.
 use mathlib.Core.Path.{_≡_}
-use mathlib.Core.Bool.{Bool, true, _&&_}
 use mathlib.Core.List.{List, [], _∷_}
 use Prim.Native.Nat.{ℕ, _+_, _*_, _%_, _^_, _≤_, _<_}
-use lib.Dec.{leb, ltb}
-use lib.ListN.{length, getD}
+use lib.ListN.{length}
 use Rattle.hash.specs.Text.{IsHash}
 use Rattle.sha256.specs.Sha256.{K, H₀, words, zeros, padded, sha256}
 

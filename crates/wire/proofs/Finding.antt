@@ -1,13 +1,12 @@
 -- Where a field that was read lies in its message. Assumes nothing.
 use mathlib.Core.Path.{_≡_, refl, sym, ap, subst, _∙_}
-use mathlib.Core.List.{List, [], _∷_, _++_}
+use mathlib.Core.List.{List, _∷_}
 use mathlib.Core.Logic.{⊎-elim}
-use mathlib.Core.Bool.{Bool, true, false, cond}
 use Prim.Native.Nat.{ℕ, _+_, _-_, _<_, _≤_}
 use native.Mathlib.Omega.{arith}
 use lib.Dec.{leb, eqb}
 use lib.ListN.{length, take, drop, getD, length-drop}
-use Rattle.std.proofs.shelf.Lists.{drop-more, drop-all, drop-drop, drop-take, length-take-le}
+use Rattle.std.proofs.shelf.Lists.{drop-more, drop-all, drop-drop, length-take-le}
 use Rattle.std.proofs.shelf.Tests.{cases-lt, cases-bool, cond-true, cond-false, leb-true}
 use Rattle.std.specs.declared.option.Option.{Option}
 use Rattle.std.specs.declared.option.Option.the-variants.{Some, None}
@@ -15,8 +14,8 @@ use Rattle.std.specs.declared.result.Result.{Result}
 use Rattle.std.specs.declared.result.Result.the-variants.{Ok, Err}
 use Rattle.wire.specs.declared.field.Span.{Span}
 use Rattle.wire.specs.Fields.{Piece, cut, fieldAt, spanOf, spanned}
-use Rattle.wire.specs.Numbers.{front, orRefused, numberAt}
-use Rattle.wire.specs.Refusals.{Refusal, refused, next}
+use Rattle.wire.specs.Numbers.{front, orRefused}
+use Rattle.wire.specs.Refusals.{Refusal, next}
 use Rattle.wire.proofs.Forms.{taken-within}
 
 pub not-ok : {A : Type 0} {e : Refusal} {x : A} → _≡_ {A = Result A Refusal} (Err e) (Ok x) → ⊥
@@ -100,10 +99,3 @@ found tag p m s e = go (fieldAt tag p (drop p m)) refl e
           text = ap (λ n. take n (drop (s .start) m)) size ∙ ap (λ n. take (length (x .text)) (drop n m)) a ∙ sym (l .text);
           rest = ap (λ n. drop n m) b ∙ sym (l .rest);
         }
-
-pub field-refused : (tag p : ℕ) (m : List ℕ) (e : Refusal) → Err e ≡ spanned (fieldAt tag p (drop p m)) → fieldAt tag p (drop p m) ≡ Err e
-field-refused tag p m e h = go (fieldAt tag p (drop p m)) refl h
-  where
-    go : (r : Result Piece Refusal) → fieldAt tag p (drop p m) ≡ r → Err e ≡ spanned r → fieldAt tag p (drop p m) ≡ Err e
-    go (Ok x) is f = absurd (not-ok f)
-    go (Err y) is f = is ∙ (let z : y ≡ e = cc in ap Err z)

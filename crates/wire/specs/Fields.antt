@@ -6,10 +6,9 @@ use lib.Dec.{eqb, leb}
 use lib.ListN.{length, take, drop}
 use Rattle.std.specs.declared.result.Result.{Result}
 use Rattle.std.specs.declared.result.Result.the-variants.{Ok, Err}
-use Rattle.wire.specs.declared.fault.ReadFault.{ReadFault}
 use Rattle.wire.specs.declared.field.Span.{Span}
 use Rattle.wire.specs.Numbers.{form, numberAt}
-use Rattle.wire.specs.Refusals.{Refusal, refused, reported, next}
+use Rattle.wire.specs.Refusals.{Refusal, refused, next}
 
 -- the bytes of a field
 abbrev pub fieldBytes : ℕ → List ℕ → List ℕ

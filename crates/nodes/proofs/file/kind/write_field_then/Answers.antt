@@ -1,11 +1,9 @@
 use mathlib.Core.Path.{_≡_, sym, _∙_}
-use mathlib.Core.List.{List, _++_}
+use mathlib.Core.List.{_++_}
 use Prim.Native.Nat.{ℕ, _+_, _<_, _≤_}
 use native.Mathlib.Omega.{arith}
 use lib.ListN.{length, length-append}
-use Rattle.std.specs.declared.result.Result.the-variants.{Ok, Err}
 use Rattle.wire.specs.Fields.{fieldBytes}
-use Rattle.wire.specs.Writing.{ending}
 use Rattle.wire.proofs.Placing.{fits, no-room, then-fits}
 use Rattle.nodes.proofs.file.kind.write_field_then.Needs as need
 use Rattle.nodes.proofs.file.kind.write_field_then.Needs.{then-room-taken·by·then-room-taken, then-room-taken·by·else-room-taken·then-room-taken-2, then-room-taken·by·else-room-taken·else-room-taken-2·then-room-taken-3}

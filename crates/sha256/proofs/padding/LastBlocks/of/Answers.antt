@@ -1,9 +1,9 @@
 use mathlib.Core.Path.{_≡_, refl, ap, _∙_}
 use mathlib.Core.List.{[], _++_, append-assoc}
-use Prim.Native.Nat.{_+_, _-_, _*_, _%_, _<_, _≤_}
+use Prim.Native.Nat.{_+_, _-_, _%_, _<_}
 use native.Mathlib.Omega.{arith}
 use lib.ListN.{length, take, replicate}
-use Rattle.sha256.specs.Sha256.{padding, marked, eight}
+use Rattle.sha256.specs.Sha256.{padding, marked}
 use Rattle.sha256.proofs.Endings.{behind, length-marked}
 use Rattle.sha256.proofs.padding.LastBlocks.of.Needs as need
 

@@ -1,7 +1,6 @@
 use mathlib.Core.Path.{_≡_, refl, ap, _∙_}
-use Prim.Native.Nat.{_+_, _*_, _<_}
+use Prim.Native.Nat.{_+_, _*_}
 use native.Mathlib.Omega.{arith}
-use lib.ListN.{length}
 use Rattle.sha256.specs.Lanes.{lane}
 use Rattle.sha256.specs.Sha256.{rounds, sum}
 use Rattle.sha256.proofs.Rows.{lane-more}

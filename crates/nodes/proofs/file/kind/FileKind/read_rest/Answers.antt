@@ -1,11 +1,11 @@
-use mathlib.Core.Path.{_≡_, sym, ap, _∙_}
+use mathlib.Core.Path.{sym, ap, _∙_}
 use lib.Dec.{eqb}
 use Rattle.std.proofs.shelf.Results.{err-from-errBy}
 use Rattle.std.specs.declared.result.Result.the-variants.{Ok, Err}
 use Rattle.digest.specs.Digests.{valueOf}
 use Rattle.wire.specs.Refusals.{refusalOf, next}
 use Rattle.wire.proofs.Finding.{found}
-use Rattle.nodes.specs.Kinds.{FileValue, fileValue}
+use Rattle.nodes.specs.Kinds.{fileValue}
 use Rattle.nodes.specs.Values.{valued}
 use Rattle.nodes.proofs.Nesting.{file-refused, file-ends}
 use Rattle.nodes.proofs.file.kind.FileKind.read_rest.Needs as need

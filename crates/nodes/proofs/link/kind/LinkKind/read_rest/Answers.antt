@@ -1,8 +1,8 @@
-use mathlib.Core.Path.{_≡_, sym, ap, _∙_}
+use mathlib.Core.Path.{sym, ap, _∙_}
 use Rattle.std.proofs.shelf.Results.{err-from-errBy}
 use Rattle.std.specs.declared.result.Result.the-variants.{Err}
 use Rattle.wire.specs.Refusals.{refusalOf}
-use Rattle.wire.proofs.Finding.{found, field-refused}
+use Rattle.wire.proofs.Finding.{found}
 use Rattle.nodes.specs.Kinds.{linkValue}
 use Rattle.nodes.specs.Values.{valued}
 use Rattle.nodes.proofs.Judging.{target-not-text, not-a-target, a-target}
