@@ -4,3 +4,4 @@ pub mod Judging
 pub mod Lasts
 pub mod Laws
 pub mod Nesting
+pub mod Writing

@@ -2,4 +2,5 @@ pub mod Digests
 pub mod Endings
 pub mod Kinds
 pub mod Names
+pub mod Nodes
 pub mod Values

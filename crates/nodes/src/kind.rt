@@ -1,7 +1,7 @@
 ghost use mathlib.Core.Path.{_≡_};
 ghost use mathlib.Core.List.{List};
-ghost use Prim.Native.Nat.{ℕ};
-ghost use lib.ListN.{drop};
+ghost use Prim.Native.Nat.{ℕ, _+_, _≤_};
+ghost use lib.ListN.{length, drop};
 ghost use Rattle.std.specs.declared.result.Result.{Result};
 ghost use Rattle.std.specs.declared.result.Result.the-variants.{Ok};
 ghost use Rattle.wire.specs.Refusals.{Refusal};
@@ -47,4 +47,9 @@ pub trait NodeKind: Sized {
     fn write_rest(&self, text: &[u8], buffer: &mut [u8], start: usize) -> Result<usize, WriteFault>
         ensures answer { λ r. ⌜ told r ≡ ending (now (buffer .entry)) start (writes (restIn (now (text .entry)) (now (self .entry)))) ⌝ }
         ensures buffer { λ _. ⌜ now (buffer .exit) ≡ after (now (buffer .entry)) start (writes (restIn (now (text .entry)) (now (self .entry)))) ⌝ };
+
+    // How many bytes that takes.
+    fn rest_length(&self, text: &[u8]) -> usize
+        ensures value { λ r. ⌜ r ≡ length (writes (restIn (now (text .entry)) (now (self .entry)))) ⌝ }
+        ensures short { λ r. ⌜ r ≤ length (now (text .entry)) + 100 ⌝ };
 }

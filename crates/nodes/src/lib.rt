@@ -7,6 +7,7 @@ mod file;
 mod kind;
 mod link;
 mod name;
+mod node;
 
 pub use directory::DirectoryNode;
 pub use directory::kind::DirectoryKind;
@@ -16,3 +17,4 @@ pub use kind::NodeKind;
 pub use link::LinkNode;
 pub use link::kind::LinkKind;
 pub use name::read_name;
+pub use node::write_node;

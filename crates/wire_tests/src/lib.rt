@@ -156,6 +156,7 @@ mod nodes {
     use nodes::LinkKind;
     use nodes::LinkNode;
     use nodes::read_name;
+    use nodes::write_node;
     use std::alloc::Global;
     use std::test::*;
     use wire::ReadFaultDebug;
@@ -267,6 +268,15 @@ mod nodes {
         let expected = node.as_slice();
         check(expected.len() == 75)?;
         check(buffer[5..75] == expected[5..75] && buffer[75] == 0xEE)?;
+        let mut whole = [0xEE; 76];
+        check(write_node(b"a", &file, b"", &mut whole, 0).ok() == Some(75))?;
+        check(whole[0..75] == expected[0..75] && whole[75] == 0xEE)?;
+        let plain = FileNode {
+            digest,
+            executable: false,
+        };
+        check(write_node(b"a", &plain, b"", &mut whole, 3).ok() == Some(76))?;
+        check(write_node(b"a", &plain, b"", &mut whole, 4).is_err())?;
         let directory = DirectoryNode { digest };
         check(DirectoryKind::write_rest(&directory, b"", &mut buffer, 8).ok() == Some(76))?;
         check(buffer[8..76] == expected[5..73])?;

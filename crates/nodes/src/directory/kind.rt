@@ -10,6 +10,7 @@ use crate::kind::NodeKind;
 use wire::ReadFault;
 use wire::Span;
 use wire::WriteFault;
+use wire::field_length;
 use wire::read_field;
 use wire::write_field;
 
@@ -45,5 +46,15 @@ pub impl NodeKind for DirectoryNode as DirectoryKind {
     ) -> Result<usize, WriteFault> {
         let DigestBytes { bytes, len } = digest_bytes(&self.digest)?;
         write_field(buffer, start, 0x12, &bytes[0..len])
+    }
+
+    fn rest_length(&self, _text: &[u8]) -> usize {
+        match digest_bytes(&self.digest) {
+            Ok(message) => {
+                let DigestBytes { bytes, len } = message;
+                field_length(&bytes[0..len])
+            }
+            Err(_) => 0,
+        }
     }
 }

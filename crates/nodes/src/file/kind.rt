@@ -54,6 +54,16 @@ pub impl NodeKind for FileNode as FileKind {
         let DigestBytes { bytes, len } = digest_bytes(&self.digest)?;
         write_field_then(buffer, start, 0x12, &bytes[0..len], mark(self.executable))
     }
+
+    fn rest_length(&self, _text: &[u8]) -> usize {
+        match digest_bytes(&self.digest) {
+            Ok(message) => {
+                let DigestBytes { bytes, len } = message;
+                field_length(&bytes[0..len]) + mark(self.executable).len()
+            }
+            Err(_) => 0,
+        }
+    }
 }
 
 // What marks an executable file.

@@ -11,6 +11,7 @@ use wire::ReadCase;
 use wire::ReadFault;
 use wire::Span;
 use wire::WriteFault;
+use wire::field_length;
 use wire::read_field;
 use wire::write_field;
 
@@ -58,6 +59,10 @@ pub impl NodeKind for LinkNode as LinkKind {
         start: usize,
     ) -> Result<usize, WriteFault> {
         write_field(buffer, start, 0x12, part_of(text, self.target))
+    }
+
+    fn rest_length(&self, text: &[u8]) -> usize {
+        field_length(part_of(text, self.target))
     }
 }
 
