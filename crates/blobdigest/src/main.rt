@@ -1,4 +1,6 @@
 // Prints the digest of the blob on standard input: the text of its hash, a space, its size in decimal.
+#![tactic(auto)]
+
 use anyhow::anyhow;
 use digest::Digest;
 use std::io::Read;

@@ -1,4 +1,6 @@
 // Hash texts, sizes and byte strings at their edges. Every expected value comes from outside this repository.
+#![tactic(auto)]
+
 #[cfg(test)]
 mod tests {
     use digest::{Digest, DigestFault};

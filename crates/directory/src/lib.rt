@@ -1,4 +1,6 @@
 // Directories: a reader that accepts the canonical ones alone.
+#![tactic(auto)]
+
 mod find;
 mod part;
 mod reader;

@@ -1,4 +1,6 @@
 // The Directory reader for a caller in C or C++. The benchmark calls it.
+#![tactic(auto)]
+
 ghost use Rattle.std.specs.Prelude.{◌≡◌, MatchResult};
 ghost use Rattle.directory.specs.Directories.{directory_of};
 

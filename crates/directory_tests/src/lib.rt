@@ -1,4 +1,6 @@
 // Directories that are accepted and refused. Places were worked out by hand from the rules.
+#![tactic(auto)]
+
 #[cfg(test)]
 mod accepted;
 #[cfg(test)]

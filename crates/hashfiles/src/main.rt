@@ -1,4 +1,6 @@
 // Prints the hash and the name of each file that its arguments name, as sha256sum does. The benchmark times it.
+#![tactic(auto)]
+
 ghost use Rattle.std.specs.Prelude.{◌≤◌, length, IfOk};
 
 use anyhow::anyhow;

@@ -1,4 +1,6 @@
 // Runs NIST's byte-oriented test vectors of SHA-256: short and long messages, and the Monte Carlo test.
+#![tactic(auto)]
+
 ghost use Rattle.std.specs.Prelude.{◌+◌, ◌≤◌, length};
 
 use anyhow::anyhow;

@@ -1,4 +1,6 @@
 // The three kinds of node of a Directory.
+#![tactic(auto)]
+
 mod digest_bytes;
 mod digest_message;
 mod directory;

@@ -1,5 +1,7 @@
 // Reads the Directories in the files that its arguments name, and prints where their directories and links begin, or the number and the place of the refusal.
 // Those in data/ were encoded by protoc 3.21.12, as by `protoc --encode=Directory directory.proto < kinds.txt > kinds.bin`, and what is expected of them was worked out by hand.
+#![tactic(auto)]
+
 use directory::{Sections, read_directory};
 use std::{env, fs};
 

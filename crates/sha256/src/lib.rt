@@ -1,4 +1,6 @@
 // SHA-256 (FIPS 180-4) of a byte string of up to 16,777,216 bytes.
+#![tactic(auto)]
+
 mod blocks;
 mod compress;
 mod constants;

@@ -1,4 +1,6 @@
 // Blobs behind one interface, and the source that verifies any other.
+#![tactic(auto)]
+
 mod fault;
 mod source;
 mod verifying;

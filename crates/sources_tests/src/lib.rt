@@ -1,4 +1,6 @@
 // The verifying source over one that may lie.
+#![tactic(auto)]
+
 mod listed;
 
 pub use listed::Listed;

@@ -1,4 +1,6 @@
 // Text in UTF-8, the rules of names and targets, and the order of names.
+#![tactic(auto)]
+
 mod names;
 mod order;
 mod utf8;

@@ -1,4 +1,6 @@
 // The wire forms that every message is made of: numbers and fields.
+#![tactic(auto)]
+
 mod fault;
 mod field;
 mod number;

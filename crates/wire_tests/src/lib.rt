@@ -1,4 +1,6 @@
 // Texts, numbers, fields and nodes at their edges. Places and values were worked out by hand from the rules.
+#![tactic(auto)]
+
 #[cfg(test)]
 mod texts {
     use texts::{is_name, is_target, is_text, precedes};

@@ -1,4 +1,6 @@
 // The writer of Directories, in three parts: files, directories and links.
+#![tactic(auto)]
+
 mod add;
 mod fault;
 mod judge;

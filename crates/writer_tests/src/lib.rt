@@ -1,4 +1,6 @@
 // What the writer writes and refuses. Bytes and places were worked out by hand from the rules.
+#![tactic(auto)]
+
 #[cfg(test)]
 mod lengths;
 #[cfg(test)]
