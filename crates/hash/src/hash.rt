@@ -1,8 +1,9 @@
-ghost use Rattle.std.specs.Prelude.{◌≡◌, ◌<◌, length, Decides};
+ghost use Rattle.std.specs.Prelude.{◌≡◌, ◌<◌, length, nat_eq};
+ghost use Rattle.std.specs.Bool.{Decides};
+ghost use Rattle.std.specs.Cmp.Lexicographic.{pointwise};
 ghost use Rattle.hash.specs.Bytes.{word, words_of, bytes_of};
 ghost use Rattle.std.specs.Cmp.Rules.{comparing};
 ghost use Rattle.std.proofs.Common.{rules};
-ghost use Rattle.std.specs.Cmp as Keys;
 
 // The 32 bytes of a hash as eight words, the most significant byte of each first.
 #[derive(Clone, Copy, Debug)]
@@ -52,12 +53,15 @@ fn word_at(bytes: &[u8; 32], i: usize) -> u32
     ])
 }
 
-impl PartialEq<Hash> for Hash {
-    ghost equals = { λ a b r. Decides r (a ≡ b) };
+impl PartialEq for Hash {
+    ghost eq = { λ a b. pointwise nat_eq a.words b.words };
 
-    ghost laws = { Keys.partial_equiv_from_equiv (Prim.search (comparing, rules)) };
+    ghost laws = { Prim.search (comparing, rules) };
 
-    fn eq(&self, other: &Hash) -> bool {
+    fn eq(&self, other: &Hash) -> bool
+        ensures equals { result ≡ pointwise nat_eq self.now.words other.now.words }
+        ensures decides { Decides result (self.now ≡ other.now) }
+    {
         self.words == other.words
     }
 }

@@ -16,11 +16,11 @@ kept_read : (r : Result Reading Refusal) (s : SoFar) → Ok s ≡ answered so_fa
 kept_read (Ok q) s h = ap (λ k. Ok k.sections) (same_ok h)
 kept_read (Err d) s h = absurd (not_ok (sym h))
 
-pub returns-in-err-read-part : goal.returns-in-err-read-part
-returns-in-err-read-part c =
+pub returns-in_err-read_part : goal.returns-in_err-read_part
+returns-in_err-read_part c =
     let p = err_from_is_err_and c.from-residual.result c.from-residual.ensures.1 in
     record {
-      value = ap reported p.1 ∙ ap (λ f. Err (refusal_of f)) p.2 ∙ kept_refused (directory_of c.args.bytes.now) _ c.in-err-read-part.ensures;
+      value = ap reported p.1 ∙ ap (λ f. Err (refusal_of f)) p.2 ∙ kept_refused (directory_of c.args.bytes.now) _ c.in_err-read_part.ensures;
       accepted = only_canonical_is_accepted;
       returned = canonical_is_read_back;
       single = one_encoding_one_directory;
@@ -28,7 +28,7 @@ returns-in-err-read-part c =
 
 pub returns : goal.returns
 returns c = record {
-  value = kept_read (directory_of c.args.bytes.now) _ c.in-ok-read-part.ensures;
+  value = kept_read (directory_of c.args.bytes.now) _ c.in_ok-read_part.ensures;
   accepted = only_canonical_is_accepted;
   returned = canonical_is_read_back;
   single = one_encoding_one_directory;

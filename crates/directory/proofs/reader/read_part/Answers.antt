@@ -3,7 +3,7 @@ use Rattle.directory.proofs.Joining.{part-followed, part-ended}
 use Rattle.directory.proofs.reader.read_part.Goals as goal
 
 pub returns-then-end-bytes : goal.returns-then-end-bytes
-returns-then-end-bytes c = part-followed c.args.bytes.now (omega arith) c.args.part c.in-ok-so-far.field-0 (sym c.in-ok-so-far.ensures) c.if-end-bytes.true
+returns-then-end-bytes c = part-followed c.args.bytes.now (omega arith) c.args.part c.in_ok-so_far.field-0 (sym c.in_ok-so_far.ensures) c.if-end-bytes.true
 
 pub returns : goal.returns
-returns c = part-ended c.args.bytes.now (omega arith) c.args.part c.in-ok-so-far.field-0 (sym c.in-ok-so-far.ensures) c.if-end-bytes.false
+returns c = part-ended c.args.bytes.now (omega arith) c.args.part c.in_ok-so_far.field-0 (sym c.in_ok-so_far.ensures) c.if-end-bytes.false

@@ -30,11 +30,11 @@ returns-after-loop-at c =
     let done = sought m c.args.name.now c.args.region e at c.min-end.ensures c.loop-at.invariant [] here refl in
     record { left = done.0; met = done.1 }
 
-pub returns-in-default : goal.returns-in-default
-returns-in-default c =
+pub returns-in_default : goal.returns-in_default
+returns-in_default c =
     let m = c.args.message.now in
     let e = c.min-end.result in
     let at = c.loop-at.at in
-    let here = none_here m e at c.in-default.ensures.value in
+    let here = none_here m e at c.in_default.ensures.value in
     let done = sought m c.args.name.now c.args.region e at c.min-end.ensures c.loop-at.invariant [] here refl in
     record { left = done.0; met = done.1 }

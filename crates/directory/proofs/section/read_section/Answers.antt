@@ -30,17 +30,17 @@ loop-at-init g c =
     let z = ap length e in
     (length (drop p m), [], omega arith, omega arith, omega arith, omega arith, passed_none _ [] _ c.requires.0, passed_none _ [] _ c.requires.1, ap (λ t. ends (section k.code k.reads (λ n. among n (earlier_names m c.args.earlier)) (length (drop p m)) (record { text = t; place = p; rest = [] }) p (drop p m))) (sym e))
 
-pub read-node-requires : goal.read-node-requires
-read-node-requires g c = let i = c.loop-at.invariant in let a = i.4 in let t = c.loop-at-test.true in (i.3, omega arith)
+pub read_node-requires : goal.read_node-requires
+read_node-requires g c = let i = c.loop-at.invariant in let a = i.4 in let t = c.loop-at-test.true in (i.3, omega arith)
 
-pub returns-in-err-node : goal.returns-in-err-node
-returns-in-err-node g c =
+pub returns-in_err-node : goal.returns-in_err-node
+returns-in_err-node g c =
     let p = err_from_is_err_and c.from-residual.result c.from-residual.ensures.1 in
     let k = g.K.NodeKind in
     let i = c.loop-at.invariant in
     let m = c.args.bytes.now in
     let prev = part m c.loop-at.last in
-    let said = c.in-err-node.ensures.value ∙ extent_alike prev _ _ (alike g (goal.at.returns-in-err-node g c).Then-bytes-at) k.code k.reads c.loop-at.at (drop c.loop-at.at m) in
+    let said = c.in_err-node.ensures.value ∙ extent_alike prev _ _ (alike g (goal.at.returns-in_err-node g c).Then-bytes-at) k.code k.reads c.loop-at.at (drop c.loop-at.at m) in
     ap reported p.1 ∙ ap (λ f. Err (refusal_of f)) p.2
     ∙ sym (i.8 ∙ refused-here k.code k.reads _ m c.loop-at.at i.0 _ c.loop-at-test.true (c.if-bytes-at.true ∙ c.tag-tag.ensures) i.2 _ (sym said))
 
@@ -50,10 +50,10 @@ loop-at-preserved g c =
     let i = c.loop-at.invariant in
     let m = c.args.bytes.now in
     let prev = part m c.loop-at.last in
-    let e = c.in-ok-node.ensures in
+    let e = c.in_ok-node.ensures in
     let said = e.value ∙ extent_alike prev _ _ (alike g (goal.at.loop-at-preserved g c).Then-bytes-at) k.code k.reads c.loop-at.at (drop c.loop-at.at m) in
     let o = one_more k.code k.reads _ m c.loop-at.at i.0 _ c.loop-at-test.true (c.if-bytes-at.true ∙ c.tag-tag.ensures) i.2 _ (sym said) in
-    let on : (all left now : List (List ℕ)) → Passed prev all left → now ≡ past (part m c.in-ok-node.node.name) left → Passed (part m c.in-ok-node.node.name) all now =
+    let on : (all left now : List (List ℕ)) → Passed prev all left → now ≡ past (part m c.in_ok-node.node.name) left → Passed (part m c.in_ok-node.node.name) all now =
     λ all left now h q. subst (Passed _ all) (sym q) (passed_on prev _ all left h o.above) in
     (i.0 - 1, o.rest, o.fewer, e.within.1, e.within.2, o.long, on _ _ _ i.6 e.passed.0, on _ _ _ i.7 e.passed.1, i.8 ∙ o.onward)
 

@@ -6,14 +6,14 @@ use Rattle.nodes.specs.Digests.{reported_digest}
 use Rattle.nodes.proofs.Digesting.{no_hash, no_size, a-digest}
 use Rattle.nodes.proofs.digest_message.read_digest.Goals as goal
 
-pub returns-in-default : goal.returns-in-default
-returns-in-default c = no_hash c.args.start c.args.message.now _ (found 0x0A _ _ _ c.in-ok-first.ensures.value) c.from-text.result c.from-text.ensures.answer c.in-default.not-Ok
+pub returns-in_default : goal.returns-in_default
+returns-in_default c = no_hash c.args.start c.args.message.now _ (found 0x0A _ _ _ c.in_ok-first.ensures.value) c.from_text.result c.from_text.ensures.answer c.in_default.not-Ok
 
-pub returns-in-err-size : goal.returns-in-err-size
-returns-in-err-size c =
-    let p = err_from_is_err_and c.from-residual-in-err-size.result c.from-residual-in-err-size.ensures.1 in
+pub returns-in_err-size : goal.returns-in_err-size
+returns-in_err-size c =
+    let p = err_from_is_err_and c.from-residual-in_err-size.result c.from-residual-in_err-size.ensures.1 in
     ap reported_digest p.1 ∙ ap (λ f. Err (refusal_of f)) p.2
-    ∙ no_size c.args.start c.args.message.now _ (found 0x0A _ _ _ c.in-ok-first.ensures.value) _ c.in-Ok.ensures.answer _ c.in-err-size.ensures.value
+    ∙ no_size c.args.start c.args.message.now _ (found 0x0A _ _ _ c.in_ok-first.ensures.value) _ c.in-Ok.ensures.answer _ c.in_err-size.ensures.value
 
 pub returns : goal.returns
-returns c = a-digest c.args.start c.args.message.now _ (found 0x0A _ _ _ c.in-ok-first.ensures.value) _ c.in-Ok.ensures.answer _ c.in-ok-size.ensures.value
+returns c = a-digest c.args.start c.args.message.now _ (found 0x0A _ _ _ c.in_ok-first.ensures.value) _ c.in-Ok.ensures.answer _ c.in_ok-size.ensures.value

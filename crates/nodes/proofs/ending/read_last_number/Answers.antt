@@ -13,36 +13,36 @@ returns-then-message-start c = record {
   bound = tt;
 }
 
-pub returns-in-err-number : goal.returns-in-err-number
-returns-in-err-number c =
+pub returns-in_err-number : goal.returns-in_err-number
+returns-in_err-number c =
     let p = err_from_is_err_and c.from-residual.result c.from-residual.ensures.1 in
     record {
       value =
           ap reported p.1 ∙ ap (λ f. Err (refusal_of f)) p.2
-          ∙ last-refused c.args.tag c.args.most c.args.start c.args.message.now c.if-start-message.false c.if-message-start.false _ c.in-err-number.ensures.value;
+          ∙ last-refused c.args.tag c.args.most c.args.start c.args.message.now c.if-start-message.false c.if-message-start.false _ c.in_err-number.ensures.value;
       bound = subst (λ r. IfOk r (λ n. n ≤ c.args.most)) (sym p.1) tt;
     }
 
 pub returns-then-number-lt1 : goal.returns-then-number-lt1
 returns-then-number-lt1 c = record {
-  value = last-outside c.args.tag c.args.most c.args.start c.args.message.now c.if-start-message.false c.if-message-start.false _ _ c.in-ok-number.ensures.value c.then-number-lt1.either;
+  value = last-outside c.args.tag c.args.most c.args.start c.args.message.now c.if-start-message.false c.if-message-start.false _ _ c.in_ok-number.ensures.value c.then-number-lt1.either;
   bound = tt;
 }
 
-pub returns-in-err-read-end : goal.returns-in-err-read-end
-returns-in-err-read-end c =
-    let p = err_from_is_err_and c.from-residual-in-err-read-end.result c.from-residual-in-err-read-end.ensures.1 in
+pub returns-in_err-read_end : goal.returns-in_err-read_end
+returns-in_err-read_end c =
+    let p = err_from_is_err_and c.from-residual-in_err-read_end.result c.from-residual-in_err-read_end.ensures.1 in
     let inside =
-    last-inside c.args.tag c.args.most c.args.start c.args.message.now c.if-start-message.false c.if-message-start.false _ _ c.in-ok-number.ensures.value c.if-number-lt1.false c.if-number-most.false in
+    last-inside c.args.tag c.args.most c.args.start c.args.message.now c.if-start-message.false c.if-message-start.false _ _ c.in_ok-number.ensures.value c.if-number-lt1.false c.if-number-most.false in
     record {
       value =
           ap reported p.1 ∙ ap (λ f. Err (refusal_of f)) p.2
-          ∙ ended-refused c.in-ok-number.number _ _ _ c.in-err-read-end.ensures ∙ sym inside;
+          ∙ ended-refused c.in_ok-number.number _ _ _ c.in_err-read_end.ensures ∙ sym inside;
       bound = subst (λ r. IfOk r (λ n. n ≤ c.args.most)) (sym p.1) tt;
     }
 
 pub returns : goal.returns
 returns c =
     let inside =
-    last-inside c.args.tag c.args.most c.args.start c.args.message.now c.if-start-message.false c.if-message-start.false _ _ c.in-ok-number.ensures.value c.if-number-lt1.false c.if-number-most.false in
-    record { value = ended_well c.in-ok-number.number _ _ c.in-ok-read-end.ensures ∙ sym inside; bound = c.if-number-most.false }
+    last-inside c.args.tag c.args.most c.args.start c.args.message.now c.if-start-message.false c.if-message-start.false _ _ c.in_ok-number.ensures.value c.if-number-lt1.false c.if-number-most.false in
+    record { value = ended_well c.in_ok-number.number _ _ c.in_ok-read_end.ensures ∙ sym inside; bound = c.if-number-most.false }

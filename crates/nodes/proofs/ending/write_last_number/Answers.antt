@@ -17,8 +17,8 @@ pub returns-then-number-eq0 : goal.returns-then-number-eq0
 returns-then-number-eq0 c =
     let is = none c.args.tag c.args.number c.if-number-eq0.true in
     record {
-      answer = c.write-bytes.ensures.answer ∙ ap (ending c.args.buffer.now c.args.start) is;
-      buffer = c.write-bytes.ensures.buffer ∙ ap (after c.args.buffer.now c.args.start) is;
+      answer = c.write_bytes.ensures.answer ∙ ap (ending c.args.buffer.now c.args.start) is;
+      buffer = c.write_bytes.ensures.buffer ∙ ap (after c.args.buffer.now c.args.start) is;
     }
 
 pub returns-then-room-taken : goal.returns-then-room-taken
@@ -28,8 +28,8 @@ returns-then-room-taken c =
     let is = some c.args.tag c.args.number c.if-number-eq0.false in
     let short : length e < c.args.start + length x =
     elim c.then-room-taken.branch [
-      | then-room-taken-via-then-room-taken w ↦ omega (arith, c.number-length-taken.ensures.value)
-      | then-room-taken-via-else-room-taken+then-room-taken-2 w ↦ omega (arith, c.number-length-taken.ensures.value)
+      | then-room-taken-via-then-room-taken w ↦ omega (arith, c.number_length-taken.ensures.value)
+      | then-room-taken-via-else-room-taken+then-room-taken-2 w ↦ omega (arith, c.number_length-taken.ensures.value)
     ] in
     let p = no_room e c.args.start x short in
     record { answer = sym (ap (ending e c.args.start) (sym is) ∙ p.0); buffer = sym (ap (after e c.args.start) (sym is) ∙ p.1) }
@@ -41,10 +41,10 @@ returns c =
     let t = c.args.tag in
     let x = t ∷ form c.args.number in
     let is = some t c.args.number c.if-number-eq0.false in
-    let room : s + length x ≤ length e = omega (arith, c.number-length-taken.ensures.value) in
+    let room : s + length x ≤ length e = omega (arith, c.number_length-taken.ensures.value) in
     let whole = fits e s x room in
     let p = then_fits e s (t ∷ []) (form c.args.number) (omega arith) _ _ (set-written e s t (omega arith)) refl in
     record {
-      answer = c.write-number.ensures.answer ∙ p.0 ∙ sym whole.0 ∙ ap (ending e s) is;
-      buffer = c.write-number.ensures.buffer ∙ p.1 ∙ sym whole.1 ∙ ap (after e s) is;
+      answer = c.write_number.ensures.answer ∙ p.0 ∙ sym whole.0 ∙ ap (ending e s) is;
+      buffer = c.write_number.ensures.buffer ∙ p.1 ∙ sym whole.1 ∙ ap (after e s) is;
     }

@@ -2,20 +2,20 @@ use Rattle.wire.proofs.Finding.{found}
 use Rattle.nodes.proofs.Judging.{name_not_text, not-a-name, a-name}
 use Rattle.nodes.proofs.name.read_name.Goals as goal
 
-pub returns-then-not-is-text : goal.returns-then-not-is-text
-returns-then-not-is-text c = record {
-  value = name_not_text c.args.start c.args.message.now _ (found 0x0A _ _ _ c.in-ok-name.ensures.value) c.if-not-is-text.ensures;
+pub returns-then-not-is_text : goal.returns-then-not-is_text
+returns-then-not-is_text c = record {
+  value = name_not_text c.args.start c.args.message.now _ (found 0x0A _ _ _ c.in_ok-name.ensures.value) c.if-not-is_text.ensures;
   within = tt;
 }
 
-pub returns-then-not-is-name : goal.returns-then-not-is-name
-returns-then-not-is-name c = record {
-  value = not-a-name c.args.start c.args.message.now _ (found 0x0A _ _ _ c.in-ok-name.ensures.value) c.if-not-is-text.ensures c.if-not-is-name.ensures;
+pub returns-then-not-is_name : goal.returns-then-not-is_name
+returns-then-not-is_name c = record {
+  value = not-a-name c.args.start c.args.message.now _ (found 0x0A _ _ _ c.in_ok-name.ensures.value) c.if-not-is_text.ensures c.if-not-is_name.ensures;
   within = tt;
 }
 
 pub returns : goal.returns
 returns c = record {
-  value = a-name c.args.start c.args.message.now _ (found 0x0A _ _ _ c.in-ok-name.ensures.value) c.if-not-is-text.ensures c.if-not-is-name.ensures;
-  within = c.in-ok-name.ensures.within;
+  value = a-name c.args.start c.args.message.now _ (found 0x0A _ _ _ c.in_ok-name.ensures.value) c.if-not-is_text.ensures c.if-not-is_name.ensures;
+  within = c.in_ok-name.ensures.within;
 }

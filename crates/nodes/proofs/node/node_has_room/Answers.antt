@@ -17,9 +17,9 @@ leaves_room s n r h =
 
 pub returns-then-room-named : goal.returns-then-room-named
 returns-then-room-named g c =
-    let a = c.field-length-named.result in
-    let b = c.rest-length-behind.result in
-    let long = node_length c.args.buffer.now c.args.start g.K.NodeKind.code c.args.name.now _ a b (c.field-length-named.ensures.value 10) c.rest-length-behind.ensures.value in
+    let a = c.field_length-named.result in
+    let b = c.rest_length-behind.result in
+    let long = node_length c.args.buffer.now c.args.start g.K.NodeKind.code c.args.name.now _ a b (c.field_length-named.ensures.value 10) c.rest_length-behind.ensures.value in
     let short : length c.args.buffer.now < c.args.start + (1 + length (form (a + b)) + (a + b)) =
     elim c.then-room-named.branch [
       | then-room-named-via-then-room-named v ↦ omega arith
@@ -29,16 +29,16 @@ returns-then-room-named g c =
 
 pub returns-then-taken-room : goal.returns-then-taken-room
 returns-then-taken-room g c =
-    let a = c.field-length-named.result in
-    let b = c.rest-length-behind.result in
-    let long = node_length c.args.buffer.now c.args.start g.K.NodeKind.code c.args.name.now _ a b (c.field-length-named.ensures.value 10) c.rest-length-behind.ensures.value in
-    let k = c.number-length.ensures.value in
+    let a = c.field_length-named.result in
+    let b = c.rest_length-behind.result in
+    let long = node_length c.args.buffer.now c.args.start g.K.NodeKind.code c.args.name.now _ a b (c.field_length-named.ensures.value 10) c.rest_length-behind.ensures.value in
+    let k = c.number_length.ensures.value in
     leaves_room c.args.start _ _ c.if-taken-room.true ∙ ap (λ n. leb (c.args.start + n) (length c.args.buffer.now)) (ap (λ n. 1 + n + (a + b)) k ∙ sym long)
 
 pub returns-else-taken-room : goal.returns-else-taken-room
 returns-else-taken-room g c =
-    let a = c.field-length-named.result in
-    let b = c.rest-length-behind.result in
-    let long = node_length c.args.buffer.now c.args.start g.K.NodeKind.code c.args.name.now _ a b (c.field-length-named.ensures.value 10) c.rest-length-behind.ensures.value in
-    let k = c.number-length.ensures.value in
+    let a = c.field_length-named.result in
+    let b = c.rest_length-behind.result in
+    let long = node_length c.args.buffer.now c.args.start g.K.NodeKind.code c.args.name.now _ a b (c.field_length-named.ensures.value 10) c.rest_length-behind.ensures.value in
+    let k = c.number_length.ensures.value in
     lt-leb _ _ c.if-taken-room.false ∙ sym (lt-leb _ _ (omega arith))

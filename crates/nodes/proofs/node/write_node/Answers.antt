@@ -14,21 +14,21 @@ room_for e s t name w a b is-a is_b h =
     let r = leb-true (s + length (node_bytes t name w)) (length e) (sym h) in
     omega arith
 
-pub overflow-add-long : goal.overflow-add-long
-overflow-add-long g c =
-    let r = room_for c.args.buffer.now c.args.start g.K.NodeKind.code c.args.name.now _ _ _ (c.field-length.ensures.value 10) c.rest-length.ensures.value c.if-not-node-has-room.ensures in
+pub overflow_add-long : goal.overflow_add-long
+overflow_add-long g c =
+    let r = room_for c.args.buffer.now c.args.start g.K.NodeKind.code c.args.name.now _ _ _ (c.field_length.ensures.value 10) c.rest_length.ensures.value c.if-not-node_has_room.ensures in
     omega arith
 
-pub returns-in-err-at : goal.returns-in-err-at
-returns-in-err-at g c =
-    let r = room_for c.args.buffer.now c.args.start g.K.NodeKind.code c.args.name.now _ _ _ (c.field-length.ensures.value 10) c.rest-length.ensures.value c.if-not-node-has-room.ensures in
-    absurd (number-not-refused c.args.buffer.now c.args.start c.tag.result c.args.name.now _ _ _ (c.field-length.ensures.value 10) c.rest-length.ensures.value r c.in-err-at.ensures.answer)
+pub returns-in_err-at : goal.returns-in_err-at
+returns-in_err-at g c =
+    let r = room_for c.args.buffer.now c.args.start g.K.NodeKind.code c.args.name.now _ _ _ (c.field_length.ensures.value 10) c.rest_length.ensures.value c.if-not-node_has_room.ensures in
+    absurd (number-not-refused c.args.buffer.now c.args.start c.tag.result c.args.name.now _ _ _ (c.field_length.ensures.value 10) c.rest_length.ensures.value r c.in_err-at.ensures.answer)
 
-pub returns-in-err-next : goal.returns-in-err-next
-returns-in-err-next g c =
-    let r = room_for c.args.buffer.now c.args.start g.K.NodeKind.code c.args.name.now _ _ _ (c.field-length.ensures.value 10) c.rest-length.ensures.value c.if-not-node-has-room.ensures in
-    absurd (name-not-refused c.args.buffer.now c.args.start c.tag.result c.args.name.now _ _ _ (c.field-length.ensures.value 10) c.rest-length.ensures.value r _ _
-    c.in-ok-at.ensures.buffer c.in-ok-at.ensures.answer c.in-err-next.ensures.answer)
+pub returns-in_err-next : goal.returns-in_err-next
+returns-in_err-next g c =
+    let r = room_for c.args.buffer.now c.args.start g.K.NodeKind.code c.args.name.now _ _ _ (c.field_length.ensures.value 10) c.rest_length.ensures.value c.if-not-node_has_room.ensures in
+    absurd (name-not-refused c.args.buffer.now c.args.start c.tag.result c.args.name.now _ _ _ (c.field_length.ensures.value 10) c.rest_length.ensures.value r _ _
+    c.in_ok-at.ensures.buffer c.in_ok-at.ensures.answer c.in_err-next.ensures.answer)
 
 pub returns : goal.returns
 returns g c =
@@ -36,11 +36,11 @@ returns g c =
     let s = c.args.start in
     let name = c.args.name.now in
     let w = g.K.NodeKind.writes (g.K.NodeKind.rest_in c.args.text.now c.args.rest.now) in
-    let r = room_for e s g.K.NodeKind.code name w _ _ (c.field-length.ensures.value 10) c.rest-length.ensures.value c.if-not-node-has-room.ensures in
+    let r = room_for e s g.K.NodeKind.code name w _ _ (c.field_length.ensures.value 10) c.rest_length.ensures.value c.if-not-node_has_room.ensures in
     let p =
-    node-written e s c.tag.result name w _ _ (c.field-length.ensures.value 10) c.rest-length.ensures.value
-    r _ _ c.in-ok-at.ensures.buffer c.in-ok-at.ensures.answer _ _ c.in-ok-next.ensures.buffer c.in-ok-next.ensures.answer in
+    node-written e s c.tag.result name w _ _ (c.field_length.ensures.value 10) c.rest_length.ensures.value
+    r _ _ c.in_ok-at.ensures.buffer c.in_ok-at.ensures.answer _ _ c.in_ok-next.ensures.buffer c.in_ok-next.ensures.answer in
     record {
-      answer = c.write-rest.ensures.answer ∙ p.0 ∙ ap (λ t. ending e s (node_bytes t name w)) c.tag.ensures;
-      buffer = c.write-rest.ensures.buffer ∙ p.1 ∙ ap (λ t. after e s (node_bytes t name w)) c.tag.ensures;
+      answer = c.write_rest.ensures.answer ∙ p.0 ∙ ap (λ t. ending e s (node_bytes t name w)) c.tag.ensures;
+      buffer = c.write_rest.ensures.buffer ∙ p.1 ∙ ap (λ t. after e s (node_bytes t name w)) c.tag.ensures;
     }

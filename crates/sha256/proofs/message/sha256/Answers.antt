@@ -23,4 +23,4 @@ returns c =
     ∙ ap (λ s. absorbed s y (length y / 64)) (c.absorb.ensures ∙ ap (λ s. absorbed s x (length x / 64)) c.first.ensures)
     ∙ in_two_parts m x y front back in
     let small : length m ≤ 16777216 = omega arith in
-    ap Ok (c.to-hash.ensures ∙ ap words state) ∙ sym (cond-true _ _ _ (le-leb (length m) 16777216 small))
+    ap Ok (c.to_hash.ensures ∙ ap words state) ∙ sym (cond-true _ _ _ (le-leb (length m) 16777216 small))

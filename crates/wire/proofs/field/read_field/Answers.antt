@@ -16,10 +16,10 @@ returns-then-start-message c =
       within = tt;
     }
 
-pub returns-in-err-length : goal.returns-in-err-length
-returns-in-err-length c =
+pub returns-in_err-length : goal.returns-in_err-length
+returns-in_err-length c =
     let p = err_from_is_err_and c.from-residual.result c.from-residual.ensures.1 in
-    let lost = number-refused (c.args.start + 1) _ _ c.in-err-length.ensures.value in
+    let lost = number-refused (c.args.start + 1) _ _ c.in_err-length.ensures.value in
     record {
       value =
           ap reported p.1 ∙ ap (λ f. Err (refusal_of f)) p.2 ∙ ap Err lost.1
@@ -31,7 +31,7 @@ pub returns-then-message-first : goal.returns-then-message-first
 returns-then-message-first c =
     record {
       value = too_short c.args.tag c.args.start c.args.message.now c.if-start-message.false c.if-message-start.false _ _
-          (number_found (c.args.start + 1) _ _ _ c.in-ok-length.ensures.value) c.if-message-first.true;
+          (number_found (c.args.start + 1) _ _ _ c.in_ok-length.ensures.value) c.if-message-first.true;
       within = tt;
     }
 
@@ -39,6 +39,6 @@ pub returns : goal.returns
 returns c =
     record {
       value = long-enough c.args.tag c.args.start c.args.message.now c.if-start-message.false c.if-message-start.false _ _
-          (number_found (c.args.start + 1) _ _ _ c.in-ok-length.ensures.value) c.if-message-first.false;
-      within = (omega arith, omega arith, omega (arith, c.in-ok-length.ensures.within));
+          (number_found (c.args.start + 1) _ _ _ c.in_ok-length.ensures.value) c.if-message-first.false;
+      within = (omega arith, omega arith, omega (arith, c.in_ok-length.ensures.within));
     }

@@ -11,8 +11,8 @@ returns-in-Some c =
     let found = c.in-Some.ensures ∙ ap front (take_rest m start) in
     record { value = ap (or_refused start) found; within = omega (arith, taken_within _ _ _ (sym found), length-drop start m, c.if-start-message.true) }
 
-pub returns-in-default : goal.returns-in-default
-returns-in-default c = record { value = ap (or_refused c.args.start) (c.in-default.ensures ∙ ap front (take_rest c.args.message.now c.args.start)); within = tt }
+pub returns-in_default : goal.returns-in_default
+returns-in_default c = record { value = ap (or_refused c.args.start) (c.in_default.ensures ∙ ap front (take_rest c.args.message.now c.args.start)); within = tt }
 
 pub returns-else-start-message : goal.returns-else-start-message
 unfolding front

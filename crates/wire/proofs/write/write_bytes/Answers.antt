@@ -12,5 +12,5 @@ returns c =
     let size : s + (s + length x - s) ≡ s + length x = omega arith in
     record {
       answer = sym p.0;
-      buffer = ap (λ l. take s e ++ (l ++ drop (s + length x - s) (drop s e))) c.copy-from-slice.ensures.after ∙ ap (λ l. take s e ++ (x ++ l)) (drop-drop _ s e ∙ ap (λ n. drop n e) size) ∙ sym p.1;
+      buffer = ap (λ l. take s e ++ (l ++ drop (s + length x - s) (drop s e))) c.copy_from_slice.ensures.after ∙ ap (λ l. take s e ++ (x ++ l)) (drop-drop _ s e ∙ ap (λ n. drop n e) size) ∙ sym p.1;
     }

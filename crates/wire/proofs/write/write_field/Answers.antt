@@ -21,7 +21,7 @@ pub returns-then-room-taken : goal.returns-then-room-taken
 returns-then-room-taken c =
     let e = c.args.buffer.now in
     let x = field_bytes c.args.tag c.args.text.now in
-    let long = c.field-length-taken.ensures.value c.args.tag in
+    let long = c.field_length-taken.ensures.value c.args.tag in
     let short : length e < c.args.start + length x =
     elim c.then-room-taken.branch [
       | then-room-taken-via-then-room-taken w ↦ omega arith
@@ -31,12 +31,12 @@ returns-then-room-taken c =
     record { answer = sym p.0; buffer = sym p.1 }
 
 pub bounds-buffer-start : goal.bounds-buffer-start
-bounds-buffer-start c = omega (arith, c.field-length-taken.ensures.value 0)
+bounds-buffer-start c = omega (arith, c.field_length-taken.ensures.value 0)
 
-pub returns-in-err-behind : goal.returns-in-err-behind
-returns-in-err-behind c =
-    let room = c.field-length-taken.ensures.value c.args.tag in
-    absurd (not_refused c.args.buffer.now c.args.start c.args.tag c.args.text.now (omega arith) c.in-err-behind.ensures.answer)
+pub returns-in_err-behind : goal.returns-in_err-behind
+returns-in_err-behind c =
+    let room = c.field_length-taken.ensures.value c.args.tag in
+    absurd (not_refused c.args.buffer.now c.args.start c.args.tag c.args.text.now (omega arith) c.in_err-behind.ensures.answer)
 
 pub returns : goal.returns
 returns c =
@@ -45,10 +45,10 @@ returns c =
     let t = c.args.tag in
     let text = c.args.text.now in
     let number = form (length text) in
-    let room : s + length (field_bytes t text) ≤ length e = omega (arith, c.field-length-taken.ensures.value t) in
-    let first = c.in-ok-behind.ensures in
+    let room : s + length (field_bytes t text) ≤ length e = omega (arith, c.field_length-taken.ensures.value t) in
+    let first = c.in_ok-behind.ensures in
     let p = head e s t text room in
-    let here : c.in-ok-behind.behind ≡ s + length (t ∷ number) = cc (p.0, first.answer) in
+    let here : c.in_ok-behind.behind ≡ s + length (t ∷ number) = cc (p.0, first.answer) in
     let q = then_fits e s (t ∷ number) text (omega (arith, length-append number text)) _ _ (first.buffer ∙ p.1) here in
     let whole = fits e s (field_bytes t text) room in
-    record { answer = c.write-bytes.ensures.answer ∙ q.0 ∙ sym whole.0; buffer = c.write-bytes.ensures.buffer ∙ q.1 ∙ sym whole.1 }
+    record { answer = c.write_bytes.ensures.answer ∙ q.0 ∙ sym whole.0; buffer = c.write_bytes.ensures.buffer ∙ q.1 ∙ sym whole.1 }

@@ -12,8 +12,8 @@ use Rattle.writer.proofs.add.add_link.Goals as goal
 whole : (t : List ℕ) → part t (record { start = 0; end = length t }) ≡ t
 whole t = take_all (length t - 0) t (omega arith)
 
-pub add-node-requires : goal.add-node-requires
-add-node-requires c = links_grow
+pub add_node-requires : goal.add_node-requires
+add_node-requires c = links_grow
 
 pub returns : goal.returns
 returns c =
@@ -21,6 +21,6 @@ returns c =
     let b = c.args.buffer.now in
     let e = whole c.args.target.now in
     record {
-      answer = c.add-node.ensures.answer ∙ ap (λ t. added s b (node_bytes 0x1A c.args.name.now (link_writes t))) e;
-      buffer = c.add-node.ensures.buffer ∙ ap (λ t. buffer_after s b (node_bytes 0x1A c.args.name.now (link_writes t)) (added s b (node_bytes 0x1A c.args.name.now (link_writes t)))) e;
+      answer = c.add_node.ensures.answer ∙ ap (λ t. added s b (node_bytes 0x1A c.args.name.now (link_writes t))) e;
+      buffer = c.add_node.ensures.buffer ∙ ap (λ t. buffer_after s b (node_bytes 0x1A c.args.name.now (link_writes t)) (added s b (node_bytes 0x1A c.args.name.now (link_writes t)))) e;
     }

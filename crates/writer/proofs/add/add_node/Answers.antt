@@ -28,8 +28,8 @@ module _ (p : Part) (k : Mark) (buffer node : List ℕ) (so : SoFar) (e : Ok so 
       let bound = k.small in
       fits buffer node k.used (omega arith) (omega arith) (sym room)
 
-pub judge-node-requires : goal.judge-node-requires
-judge-node-requires g c = small c.args.part c.args.mark c.args.buffer.now _ _ c.in-ok-so-far.ensures c.if-not-node-has-room.ensures
+pub judge_node-requires : goal.judge_node-requires
+judge_node-requires g c = small c.args.part c.args.mark c.args.buffer.now _ _ c.in_ok-so_far.ensures c.if-not-node_has_room.ensures
 
 pub returns-in-Err : goal.returns-in-Err
 returns-in-Err g c =
@@ -39,9 +39,9 @@ returns-in-Err g c =
     let b = c.args.buffer.now in
     let body = field_bytes 0x0A c.args.name.now ++ k.writes (k.rest_in c.args.text.now c.args.rest.now) in
     let node = field_bytes k.code body in
-    let e = c.in-ok-so-far.ensures in
-    let room = c.if-not-node-has-room.ensures in
-    let said = c.in-Err.ensures ∙ judged p k.code k.reads c.requires (take c.args.mark.used b) body c.in-ok-so-far.so_far (kept s b _ e).1 (small p c.args.mark b node _ e room) in
+    let e = c.in_ok-so_far.ensures in
+    let room = c.if-not-node_has_room.ensures in
+    let said = c.in-Err.ensures ∙ judged p k.code k.reads c.requires (take c.args.mark.used b) body c.in_ok-so_far.so_far (kept s b _ e).1 (small p c.args.mark b node _ e room) in
     let r = added-refused s b node _ e (sym room) _ said in
     record { answer = sym r; buffer = sym (ap (buffer_after s b node) r) }
 
@@ -57,9 +57,9 @@ returns-in-Ok g c =
     let b = c.args.buffer.now in
     let body = field_bytes 0x0A c.args.name.now ++ k.writes (k.rest_in c.args.text.now c.args.rest.now) in
     let node = field_bytes k.code body in
-    let e = c.in-ok-so-far.ensures in
-    let room = c.if-not-node-has-room.ensures in
-    let said = c.in-default.ensures ∙ judged p k.code k.reads c.requires (take c.args.mark.used b) body c.in-ok-so-far.so_far (kept s b _ e).1 (small p c.args.mark b node _ e room) in
+    let e = c.in_ok-so_far.ensures in
+    let room = c.if-not-node_has_room.ensures in
+    let said = c.in_default.ensures ∙ judged p k.code k.reads c.requires (take c.args.mark.used b) body c.in_ok-so_far.so_far (kept s b _ e).1 (small p c.args.mark b node _ e room) in
     let r = added_taken s b node _ e (sym room) said in
     record {
       answer = ap Ok (written_at b node c.args.mark.used _ room c.in-Ok.ensures.answer) ∙ sym r;

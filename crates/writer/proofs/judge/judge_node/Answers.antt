@@ -38,29 +38,29 @@ module _ (m name w : List ℕ) (code a b j k : ℕ) (l : Lengths m name w code a
       let inner = l.inner in
       omega arith
 
-pub overflow-add-body : goal.overflow-add-body
-overflow-add-body g c =
-    let l = lengths c.args.bytes.now c.args.name.now _ g.K.NodeKind.code _ _ (c.field-length.ensures.value 10) c.rest-length.ensures.value c.requires in
+pub overflow_add-body : goal.overflow_add-body
+overflow_add-body g c =
+    let l = lengths c.args.bytes.now c.args.name.now _ g.K.NodeKind.code _ _ (c.field_length.ensures.value 10) c.rest_length.ensures.value c.requires in
     let whole = l.whole in
     omega arith
 
 pub overflow-cast-place : goal.overflow-cast-place
 overflow-cast-place g c =
-    let l = lengths c.args.bytes.now c.args.name.now _ g.K.NodeKind.code _ _ (c.field-length.ensures.value 10) c.rest-length.ensures.value c.requires in
-    let f = fits c.args.bytes.now c.args.name.now _ g.K.NodeKind.code _ _ _ _ l c.number-length.ensures.value c.number-length-2.ensures.value in
+    let l = lengths c.args.bytes.now c.args.name.now _ g.K.NodeKind.code _ _ (c.field_length.ensures.value 10) c.rest_length.ensures.value c.requires in
+    let f = fits c.args.bytes.now c.args.name.now _ g.K.NodeKind.code _ _ _ _ l c.number_length.ensures.value c.number_length-2.ensures.value in
     omega arith
 
-pub returns-in-err-judge-name : goal.returns-in-err-judge-name
-returns-in-err-judge-name g c =
+pub returns-in_err-judge_name : goal.returns-in_err-judge_name
+returns-in_err-judge_name g c =
     let p = err_from_is_err_and c.from-residual.result c.from-residual.ensures.1 in
     let k = g.K.NodeKind in
     let m = c.args.bytes.now in
     let name = c.args.name.now in
     let w = k.writes (k.rest_in c.args.text.now c.args.rest.now) in
-    let l = lengths m name w k.code _ _ (c.field-length.ensures.value 10) c.rest-length.ensures.value c.requires in
-    let at = placed_at m name w k.code _ _ _ _ l c.number-length.ensures.value c.number-length-2.ensures.value in
+    let l = lengths m name w k.code _ _ (c.field_length.ensures.value 10) c.rest_length.ensures.value c.requires in
+    let at = placed_at m name w k.code _ _ _ _ l c.number_length.ensures.value c.number_length-2.ensures.value in
     ap reported p.1 ∙ ap (λ f. Err (refusal_of f)) p.2
-    ∙ name_refused k.code k.reads (met_before m c.args.part c.args.so-far.sections) (text_at m c.args.so-far.last) _ name w (omega arith) _ _ at c.in-err-judge-name.ensures
+    ∙ name_refused k.code k.reads (met_before m c.args.part c.args.so_far.sections) (text_at m c.args.so_far.last) _ name w (omega arith) _ _ at c.in_err-judge_name.ensures
 
 pub returns : goal.returns
 returns g c =
@@ -68,7 +68,7 @@ returns g c =
     let m = c.args.bytes.now in
     let name = c.args.name.now in
     let w = k.writes (k.rest_in c.args.text.now c.args.rest.now) in
-    let l = lengths m name w k.code _ _ (c.field-length.ensures.value 10) c.rest-length.ensures.value c.requires in
-    let at = placed_at m name w k.code _ _ _ _ l c.number-length.ensures.value c.number-length-2.ensures.value in
-    c.judge-rest.ensures
-    ∙ rest_decides k.code k.reads (met_before m c.args.part c.args.so-far.sections) (text_at m c.args.so-far.last) _ name w (omega arith) _ at c.in-ok-judge-name.ensures
+    let l = lengths m name w k.code _ _ (c.field_length.ensures.value 10) c.rest_length.ensures.value c.requires in
+    let at = placed_at m name w k.code _ _ _ _ l c.number_length.ensures.value c.number_length-2.ensures.value in
+    c.judge_rest.ensures
+    ∙ rest_decides k.code k.reads (met_before m c.args.part c.args.so_far.sections) (text_at m c.args.so_far.last) _ name w (omega arith) _ at c.in_ok-judge_name.ensures

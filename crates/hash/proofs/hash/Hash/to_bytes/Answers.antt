@@ -9,8 +9,8 @@ loop-i-preserved c =
     let i = c.loop-i.i in
     let words = c.args.self.now.words in
     let out = c.loop-i.bytes in
-    let part = c.copy-from-slice.new.self in
-    let is : part ≡ four (get_or words i 0) = c.copy-from-slice.ensures.after ∙ c.to-be-bytes.ensures in
+    let part = c.copy_from_slice.new.self in
+    let is : part ≡ four (get_or words i 0) = c.copy_from_slice.ensures.after ∙ c.to_be_bytes.ensures in
     let long : length part ≡ 4 = ap length is in
     let here : i < length words = omega arith in (
       length-written out part (4 * i) (4 * i + 4 - 4 * i) (omega (arith, c.loop-i.invariant.0)) (omega arith) ∙ c.loop-i.invariant.0,

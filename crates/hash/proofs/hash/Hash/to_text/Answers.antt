@@ -9,10 +9,10 @@ use Rattle.hash.proofs.hash.Hash.to_text.Goals as goal
 pub loop-i-preserved : goal.loop-i-preserved
 loop-i-preserved c =
     let i = c.loop-i.i in
-    let bytes = c.to-bytes-bytes.result in
+    let bytes = c.to_bytes-bytes.result in
     let out = c.loop-i.text in
-    let part = c.copy-from-slice.new.self in
-    let is : part ≡ hex_pair (get_or bytes i 0) = c.copy-from-slice.ensures.after ∙ c.hex-pair.ensures in
+    let part = c.copy_from_slice.new.self in
+    let is : part ≡ hex_pair (get_or bytes i 0) = c.copy_from_slice.ensures.after ∙ c.hex_pair.ensures in
     let long : length part ≡ 2 = ap length is in
     let here : i < length bytes = omega arith in (
       length-written out part (2 * i) (2 * i + 2 - 2 * i) (omega (arith, c.loop-i.invariant.0)) (omega arith) ∙ c.loop-i.invariant.0,
@@ -25,6 +25,6 @@ returns c =
     record {
       value =
           sym (take_all (2 * i) c.loop-i.text (omega (arith, c.loop-i.invariant.0))) ∙ c.loop-i.invariant.1
-          ∙ ap (flat_map hex_pair) (take_all i c.to-bytes-bytes.result (omega arith) ∙ c.to-bytes-bytes.ensures);
+          ∙ ap (flat_map hex_pair) (take_all i c.to_bytes-bytes.result (omega arith) ∙ c.to_bytes-bytes.ensures);
       texts = text_is_read_back;
     }

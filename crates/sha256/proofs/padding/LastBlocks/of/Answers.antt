@@ -6,22 +6,22 @@ use Rattle.sha256.proofs.padding.LastBlocks.of.Goals as goal
 pub put-requires-2 : goal.put-requires-2
 put-requires-2 c =
     let z = (119 - length c.args.rest.now) % 64 in
-    omega (arith, c.put.auto.bytes, ap length c.padding-mark.ensures ∙ length_marked z)
+    omega (arith, c.put.auto.bytes, ap length c.padding_mark.ensures ∙ length_marked z)
 
 pub returns : goal.returns
 unfolding padding
 returns c =
     let rest = c.args.rest.now in
-    let mark = c.padding-mark.result.now in
-    let bits = c.to-be-bytes.result in
+    let mark = c.padding_mark.result.now in
+    let bits = c.to_be_bytes.result in
     let z = (119 - length rest) % 64 in
     let end = length rest + 1 + z in
     let b₁ = c.put.new.bytes in
     let b₂ = c.put-2.new.bytes in
     let b₃ = c.put-3.new.bytes in
     let short : length rest < 64 = omega (arith, c.requires.0) in
-    let marks : length mark ≡ z + 1 = ap length c.padding-mark.ensures ∙ length_marked z in
-    let eights : length bits ≡ 8 = ap length c.to-be-bytes.ensures in
+    let marks : length mark ≡ z + 1 = ap length c.padding_mark.ensures ∙ length_marked z in
+    let eights : length bits ≡ 8 = ap length c.to_be_bytes.ensures in
     let long₁ : length b₁ ≡ 128 = c.put.auto.bytes in
     let long₂ : length b₂ ≡ length b₁ = c.put-2.auto.bytes in
     let front₁ : take (length rest) b₁ ≡ rest = behind (replicate 128 0) b₁ rest [] 0 (length rest) c.put.ensures (omega arith) refl (omega arith) in
@@ -30,7 +30,7 @@ returns c =
     record {
       bytes =
           front₃ ∙ append_assoc rest mark bits
-          ∙ ap (λ l. rest ++ (l ++ bits)) (c.padding-mark.ensures ∙ ap (λ n. marked ((119 - n) % 64)) c.requires.0)
-          ∙ ap (λ l. rest ++ (marked ((119 - c.args.total % 64) % 64) ++ l)) c.to-be-bytes.ensures;
+          ∙ ap (λ l. rest ++ (l ++ bits)) (c.padding_mark.ensures ∙ ap (λ n. marked ((119 - n) % 64)) c.requires.0)
+          ∙ ap (λ l. rest ++ (marked ((119 - c.args.total % 64) % 64) ++ l)) c.to_be_bytes.ensures;
       len = omega arith;
     }

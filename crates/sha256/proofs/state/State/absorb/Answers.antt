@@ -12,7 +12,7 @@ loop-i-preserved c =
     let text = c.args.text.now in
     let size : 256 * i + 256 - 256 * i ≡ 256 = omega arith in
     absorbed-part c.args.self text c.loop-i.s _ (4 * i) 4 (4 * (i + 1)) (256 * i) (omega arith) (omega arith) c.loop-i.invariant
-    (c.absorb-four-s.ensures ∙ ap (λ n. absorbed c.loop-i.s (take n (drop (256 * i) text)) 4) size) (omega arith)
+    (c.absorb_four-s.ensures ∙ ap (λ n. absorbed c.loop-i.s (take n (drop (256 * i) text)) 4) size) (omega arith)
 
 pub loop-i-2-init : goal.loop-i-2-init
 loop-i-2-init c = λ s₀ e. e

@@ -9,12 +9,12 @@ loop-t-init c = sofar_none _ _ _ refl
 pub loop-t-preserved : goal.loop-t-preserved
 loop-t-preserved c =
     more_first c.args.self c.args.block.now c.loop-t.w c.loop-t.s c.loop-t.t c.loop-t.invariant (omega arith) _ _ _
-    c.round-constant.ensures c.round-s.ensures c.loop-t-test.true c.block-word-x.ensures
+    c.round_constant.ensures c.round-s.ensures c.loop-t-test.true c.block_word-x.ensures
 
 pub loop-t-2-preserved : goal.loop-t-2-preserved
 loop-t-2-preserved c =
     more_next c.args.self c.args.block.now c.loop-t-2.w c.loop-t-2.s c.loop-t-2.t c.loop-t-2.invariant c.loop-t-2-test.true _ _ _
-    c.round-constant-in-loop-t-2.ensures c.round-s-in-loop-t-2.ensures c.loop-t-2.auto.t c.next-word-x.ensures
+    c.round_constant-in-loop-t-2.ensures c.round-s-in-loop-t-2.ensures c.loop-t-2.auto.t c.next_word-x.ensures
 
 pub returns : goal.returns
 unfolding compressed

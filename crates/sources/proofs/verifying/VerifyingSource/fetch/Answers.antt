@@ -4,30 +4,30 @@ use Rattle.sources.specs.Verified.{verified}
 use Rattle.sources.proofs.Fetched.{Fetched, given, front_length, true-answer, true-buffer, false-answer, false-buffer}
 use Rattle.sources.proofs.verifying.VerifyingSource.fetch.Given as over
 use Rattle.sources.proofs.verifying.VerifyingSource.fetch.Goals as goal
-use Rattle.sources.proofs.verifying.VerifyingSource.fetch.Goals.{In-ok-fetch}
+use Rattle.sources.proofs.verifying.VerifyingSource.fetch.Goals.{In_ok-fetch}
 
 -- what was fetched from the source below
-below : (g : over.Over) (c : In-ok-fetch g) → Fetched (g.S.Source.meaning c.args.self.now.source (value_of c.args.digest.now)) c.args.digest.now.size c.args.buffer.now c.fetch.new.buffer
+below : (g : over.Over) (c : In_ok-fetch g) → Fetched (g.S.Source.meaning c.args.self.now.source (value_of c.args.digest.now)) c.args.digest.now.size c.args.buffer.now c.fetch.new.buffer
 below g c =
-    let e = c.in-ok-fetch.ensures in
+    let e = c.in_ok-fetch.ensures in
     given _ c.args.digest.now.size c.args.buffer.now _ (g.S.Source.sized c.args.self.now.source (value_of c.args.digest.now)) e.answer e.buffer
 
-pub returns-then-has-digest : goal.returns-then-has-digest
-returns-then-has-digest g c =
+pub returns-then-has_digest : goal.returns-then-has_digest
+returns-then-has_digest g c =
     let d = value_of c.args.digest.now in
-    let f = below g (goal.at.returns-then-has-digest g c).In-ok-fetch in
+    let f = below g (goal.at.returns-then-has_digest g c).In_ok-fetch in
     record {
-      answer = true-answer d _ _ _ _ f c.if-has-digest.ensures;
-      buffer = true-buffer d _ _ _ _ f c.if-has-digest.ensures;
-      kept = ap (λ m d. verified d (m d)) c.in-ok-fetch.ensures.kept;
+      answer = true-answer d _ _ _ _ f c.if-has_digest.ensures;
+      buffer = true-buffer d _ _ _ _ f c.if-has_digest.ensures;
+      kept = ap (λ m d. verified d (m d)) c.in_ok-fetch.ensures.kept;
     }
 
 pub returns : goal.returns
 returns g c =
     let d = value_of c.args.digest.now in
-    let f = below g (goal.at.returns g c).In-ok-fetch in
+    let f = below g (goal.at.returns g c).In_ok-fetch in
     record {
-      answer = false-answer d _ _ _ _ f c.if-has-digest.ensures;
-      buffer = false-buffer d _ _ _ _ f c.if-has-digest.ensures c.fill.new.self (c.fill.ensures.after (λ y e. e) ∙ ap (λ n. replicate n 0) (front_length _ _ _ _ f));
-      kept = ap (λ m d. verified d (m d)) c.in-ok-fetch.ensures.kept;
+      answer = false-answer d _ _ _ _ f c.if-has_digest.ensures;
+      buffer = false-buffer d _ _ _ _ f c.if-has_digest.ensures c.fill.new.self (c.fill.ensures.after (λ y e. e) ∙ ap (λ n. replicate n 0) (front_length _ _ _ _ f));
+      kept = ap (λ m d. verified d (m d)) c.in_ok-fetch.ensures.kept;
     }

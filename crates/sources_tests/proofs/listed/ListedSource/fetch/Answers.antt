@@ -27,6 +27,6 @@ returns c =
     let h = this (value_of u) b (value_of d) (sym (straight _ _ e.2 c.if-ne.false) ∙ told_same d u e.0 e.1) (omega arith) in
     record {
       answer = then_fetched _ d.size c.args.buffer.now c.if-digest-buffer.false (Bytes b) h;
-      buffer = (λ i. c.copy-from-slice.ensures.after i ++ drop (sym c.if-digest-ne3.false i) c.args.buffer.now) ∙ then_after _ d.size c.args.buffer.now c.if-digest-buffer.false (Bytes b) h;
+      buffer = (λ i. c.copy_from_slice.ensures.after i ++ drop (sym c.if-digest-ne3.false i) c.args.buffer.now) ∙ then_after _ d.size c.args.buffer.now c.if-digest-buffer.false (Bytes b) h;
       kept = refl;
     }

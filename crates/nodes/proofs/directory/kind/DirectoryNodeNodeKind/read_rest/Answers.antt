@@ -9,28 +9,28 @@ use Rattle.nodes.proofs.Judging.{none}
 use Rattle.nodes.proofs.Nesting.{directory_refused, directory_ends}
 use Rattle.nodes.proofs.directory.kind.DirectoryNodeNodeKind.read_rest.Goals as goal
 
-pub returns-in-err-digest : goal.returns-in-err-digest
-returns-in-err-digest c =
-    let p = err_from_is_err_and c.from-residual-in-err-digest.result c.from-residual-in-err-digest.ensures.1 in
+pub returns-in_err-digest : goal.returns-in_err-digest
+returns-in_err-digest c =
+    let p = err_from_is_err_and c.from-residual-in_err-digest.result c.from-residual-in_err-digest.ensures.1 in
     record {
       value = ap (valued directory_value c.args.message.now) p.1 ∙ ap (λ f. Err (refusal_of f)) p.2
-          ∙ directory_refused c.args.start c.args.message.now _ (found 0x12 _ _ _ c.in-ok-first.ensures.value) c.in-ok-first.ensures.within.1 _ c.in-err-digest.ensures;
+          ∙ directory_refused c.args.start c.args.message.now _ (found 0x12 _ _ _ c.in_ok-first.ensures.value) c.in_ok-first.ensures.within.1 _ c.in_err-digest.ensures;
       places = none _ _ _ p.1;
     }
 
-pub returns-in-err-read-end : goal.returns-in-err-read-end
-returns-in-err-read-end c =
-    let p = err_from_is_err_and c.from-residual-in-err-read-end.result c.from-residual-in-err-read-end.ensures.1 in
-    let is = directory_ends c.args.start c.args.message.now _ (found 0x12 _ _ _ c.in-ok-first.ensures.value) c.in-ok-first.ensures.within.1 _ c.in-ok-digest.ensures in
+pub returns-in_err-read_end : goal.returns-in_err-read_end
+returns-in_err-read_end c =
+    let p = err_from_is_err_and c.from-residual-in_err-read_end.result c.from-residual-in_err-read_end.ensures.1 in
+    let is = directory_ends c.args.start c.args.message.now _ (found 0x12 _ _ _ c.in_ok-first.ensures.value) c.in_ok-first.ensures.within.1 _ c.in_ok-digest.ensures in
     record {
-      value = ap (valued directory_value c.args.message.now) p.1 ∙ ap (λ f. Err (refusal_of f)) p.2 ∙ ended-refused _ _ _ _ c.in-err-read-end.ensures ∙ sym is;
+      value = ap (valued directory_value c.args.message.now) p.1 ∙ ap (λ f. Err (refusal_of f)) p.2 ∙ ended-refused _ _ _ _ c.in_err-read_end.ensures ∙ sym is;
       places = none _ _ _ p.1;
     }
 
 pub returns : goal.returns
 returns c =
-    let is = directory_ends c.args.start c.args.message.now _ (found 0x12 _ _ _ c.in-ok-first.ensures.value) c.in-ok-first.ensures.within.1 _ c.in-ok-digest.ensures in
+    let is = directory_ends c.args.start c.args.message.now _ (found 0x12 _ _ _ c.in_ok-first.ensures.value) c.in_ok-first.ensures.within.1 _ c.in_ok-digest.ensures in
     record {
-      value = ended_well _ _ _ c.in-ok-read-end.ensures ∙ sym is;
+      value = ended_well _ _ _ c.in_ok-read_end.ensures ∙ sym is;
       places = tt;
     }

@@ -11,6 +11,6 @@ returns-in-Ok c =
     let cut : take (m.len - 0) m.bytes ≡ digest_bytes (value_of c.args.self.now.digest) = ap (λ n. take n m.bytes) whole ∙ c.in-Ok.ensures.bytes in
     let short : length (take (m.len - 0) m.bytes) ≤ m.len = simp length-take (omega arith) in
     record {
-      value = c.field-length.ensures.value 0x12 ∙ ap (λ t. length (field_bytes 0x12 t)) cut;
-      short = omega (arith, c.field-length.ensures.short, short, c.in-Ok.ensures.len);
+      value = c.field_length.ensures.value 0x12 ∙ ap (λ t. length (field_bytes 0x12 t)) cut;
+      short = omega (arith, c.field_length.ensures.short, short, c.in-Ok.ensures.len);
     }

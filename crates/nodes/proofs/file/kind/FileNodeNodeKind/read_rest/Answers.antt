@@ -9,29 +9,29 @@ use Rattle.nodes.proofs.Judging.{none}
 use Rattle.nodes.proofs.Nesting.{file_refused, file_ends}
 use Rattle.nodes.proofs.file.kind.FileNodeNodeKind.read_rest.Goals as goal
 
-pub returns-in-err-digest : goal.returns-in-err-digest
-returns-in-err-digest c =
-    let p = err_from_is_err_and c.from-residual-in-err-digest.result c.from-residual-in-err-digest.ensures.1 in
+pub returns-in_err-digest : goal.returns-in_err-digest
+returns-in_err-digest c =
+    let p = err_from_is_err_and c.from-residual-in_err-digest.result c.from-residual-in_err-digest.ensures.1 in
     record {
       value = ap (valued file_value c.args.message.now) p.1 ∙ ap (λ f. Err (refusal_of f)) p.2
-          ∙ file_refused c.args.start c.args.message.now _ (found 0x12 _ _ _ c.in-ok-first.ensures.value) c.in-ok-first.ensures.within.1 _ c.in-err-digest.ensures;
+          ∙ file_refused c.args.start c.args.message.now _ (found 0x12 _ _ _ c.in_ok-first.ensures.value) c.in_ok-first.ensures.within.1 _ c.in_err-digest.ensures;
       places = none _ _ _ p.1;
     }
 
-pub returns-in-err-mark : goal.returns-in-err-mark
-returns-in-err-mark c =
-    let p = err_from_is_err_and c.from-residual-in-err-mark.result c.from-residual-in-err-mark.ensures.1 in
-    let is = file_ends c.args.start c.args.message.now _ (found 0x12 _ _ _ c.in-ok-first.ensures.value) c.in-ok-first.ensures.within.1 _ c.in-ok-digest.ensures in
+pub returns-in_err-mark : goal.returns-in_err-mark
+returns-in_err-mark c =
+    let p = err_from_is_err_and c.from-residual-in_err-mark.result c.from-residual-in_err-mark.ensures.1 in
+    let is = file_ends c.args.start c.args.message.now _ (found 0x12 _ _ _ c.in_ok-first.ensures.value) c.in_ok-first.ensures.within.1 _ c.in_ok-digest.ensures in
     record {
       value = ap (valued file_value c.args.message.now) p.1 ∙ ap (λ f. Err (refusal_of f)) p.2
-          ∙ ap (λ r. next r (λ n. Ok (record { digest = value_of c.in-ok-digest.digest; executable = eqb n 1 }))) c.in-err-mark.ensures.value ∙ sym is;
+          ∙ ap (λ r. next r (λ n. Ok (record { digest = value_of c.in_ok-digest.digest; executable = eqb n 1 }))) c.in_err-mark.ensures.value ∙ sym is;
       places = none _ _ _ p.1;
     }
 
 pub returns : goal.returns
 returns c =
-    let is = file_ends c.args.start c.args.message.now _ (found 0x12 _ _ _ c.in-ok-first.ensures.value) c.in-ok-first.ensures.within.1 _ c.in-ok-digest.ensures in
+    let is = file_ends c.args.start c.args.message.now _ (found 0x12 _ _ _ c.in_ok-first.ensures.value) c.in_ok-first.ensures.within.1 _ c.in_ok-digest.ensures in
     record {
-      value = ap (λ r. next r (λ n. Ok (record { digest = value_of c.in-ok-digest.digest; executable = eqb n 1 }))) c.in-ok-mark.ensures.value ∙ sym is;
+      value = ap (λ r. next r (λ n. Ok (record { digest = value_of c.in_ok-digest.digest; executable = eqb n 1 }))) c.in_ok-mark.ensures.value ∙ sym is;
       places = tt;
     }

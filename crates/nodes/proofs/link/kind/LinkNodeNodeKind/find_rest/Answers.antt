@@ -15,10 +15,10 @@ part_stays m more s h l =
 
 pub returns : goal.returns
 returns c =
-    let f = found 0x12 c.args.start c.args.message.now _ c.in-ok-read-field.ensures.value in
-    let w = c.in-ok-read-field.ensures.within in
+    let f = found 0x12 c.args.start c.args.message.now _ c.in_ok-read_field.ensures.value in
+    let w = c.in_ok-read_field.ensures.within in
     record {
       value = ap Ok f.text ∙ sym (ap (λ r. next r (λ x. Ok x.text)) f.is);
-      places = sym c.in-ok-read-field.ensures.value;
+      places = sym c.in_ok-read_field.ensures.value;
       within = λ more. part_stays c.args.message.now more _ w.1 w.2;
     }

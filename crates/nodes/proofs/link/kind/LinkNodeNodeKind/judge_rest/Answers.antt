@@ -11,8 +11,8 @@ verdict_is (Err e) x = refl
 
 pub returns : goal.returns
 returns c =
-    let t = c.part-of-target.result.now in
+    let t = c.part_of-target.result.now in
     let p = c.args.start in
-    c.judge-target.ensures
-    ∙ ap (λ k. target_at (p + 1 + k) t) c.number-length.ensures.value
-    ∙ sym (ap (λ y. verdict (link_reads p (link_writes y))) (sym c.part-of-target.ensures) ∙ ap verdict (link_judges p t (omega arith)) ∙ verdict_is (target_at _ t) t)
+    c.judge_target.ensures
+    ∙ ap (λ k. target_at (p + 1 + k) t) c.number_length.ensures.value
+    ∙ sym (ap (λ y. verdict (link_reads p (link_writes y))) (sym c.part_of-target.ensures) ∙ ap verdict (link_judges p t (omega arith)) ∙ verdict_is (target_at _ t) t)

@@ -8,28 +8,28 @@ use Rattle.nodes.proofs.Judging.{none, target_refused, a_target}
 use Rattle.nodes.proofs.Lasts.{ended-refused, ended_well}
 use Rattle.nodes.proofs.link.kind.LinkNodeNodeKind.read_rest.Goals as goal
 
-pub returns-in-err-judge-target : goal.returns-in-err-judge-target
-returns-in-err-judge-target c =
-    let p = err_from_is_err_and c.from-residual-in-err-judge-target.result c.from-residual-in-err-judge-target.ensures.1 in
+pub returns-in_err-judge_target : goal.returns-in_err-judge_target
+returns-in_err-judge_target c =
+    let p = err_from_is_err_and c.from-residual-in_err-judge_target.result c.from-residual-in_err-judge_target.ensures.1 in
     record {
       value = ap (valued link_value c.args.message.now) p.1 ∙ ap (λ f. Err (refusal_of f)) p.2
-          ∙ target_refused c.args.start c.args.message.now _ (found 0x12 _ _ _ c.in-ok-target.ensures.value) _ c.in-err-judge-target.ensures;
+          ∙ target_refused c.args.start c.args.message.now _ (found 0x12 _ _ _ c.in_ok-target.ensures.value) _ c.in_err-judge_target.ensures;
       places = none _ _ _ p.1;
     }
 
-pub returns-in-err-read-end : goal.returns-in-err-read-end
-returns-in-err-read-end c =
-    let p = err_from_is_err_and c.from-residual-in-err-read-end.result c.from-residual-in-err-read-end.ensures.1 in
-    let is = a_target c.args.start c.args.message.now _ (found 0x12 _ _ _ c.in-ok-target.ensures.value) c.in-ok-judge-target.ensures in
+pub returns-in_err-read_end : goal.returns-in_err-read_end
+returns-in_err-read_end c =
+    let p = err_from_is_err_and c.from-residual-in_err-read_end.result c.from-residual-in_err-read_end.ensures.1 in
+    let is = a_target c.args.start c.args.message.now _ (found 0x12 _ _ _ c.in_ok-target.ensures.value) c.in_ok-judge_target.ensures in
     record {
-      value = ap (valued link_value c.args.message.now) p.1 ∙ ap (λ f. Err (refusal_of f)) p.2 ∙ ended-refused _ _ _ _ c.in-err-read-end.ensures ∙ sym is;
+      value = ap (valued link_value c.args.message.now) p.1 ∙ ap (λ f. Err (refusal_of f)) p.2 ∙ ended-refused _ _ _ _ c.in_err-read_end.ensures ∙ sym is;
       places = none _ _ _ p.1;
     }
 
 pub returns : goal.returns
 returns c =
-    let is = a_target c.args.start c.args.message.now _ (found 0x12 _ _ _ c.in-ok-target.ensures.value) c.in-ok-judge-target.ensures in
+    let is = a_target c.args.start c.args.message.now _ (found 0x12 _ _ _ c.in_ok-target.ensures.value) c.in_ok-judge_target.ensures in
     record {
-      value = ended_well _ _ _ c.in-ok-read-end.ensures ∙ sym is;
-      places = sym c.in-ok-target.ensures.value;
+      value = ended_well _ _ _ c.in_ok-read_end.ensures ∙ sym is;
+      places = sym c.in_ok-target.ensures.value;
     }

@@ -8,6 +8,6 @@ returns c =
     let m = c.args.text.now in
     let within : length (part m s) ≤ length m = simp (length-take, length-drop) (omega arith) in
     record {
-      value = c.field-length.ensures.value 0x12 ∙ ap (λ t. length (link_writes t)) c.part-of.ensures;
-      short = omega (arith, c.field-length.ensures.short, ap length c.part-of.ensures, within);
+      value = c.field_length.ensures.value 0x12 ∙ ap (λ t. length (link_writes t)) c.part_of.ensures;
+      short = omega (arith, c.field_length.ensures.short, ap length c.part_of.ensures, within);
     }
