@@ -27,7 +27,7 @@ inner g c =
 
 pub returns-in_err-name : goal.returns-in_err-name
 returns-in_err-name g c =
-    let p = err_from_is_err_and c.from-residual-in_err-name.result c.from-residual-in_err-name.ensures.1 in
+    let p = err_from_is_err_and c.from_residual-in_err-name.result c.from_residual-in_err-name.ensures.1 in
     let k = g.K.NodeKind in
     let m = c.args.bytes.now in
     let f = field g (goal.at.returns-in_err-name g c).In_ok-start in
@@ -39,7 +39,7 @@ returns-in_err-name g c =
 
 pub returns-in_err-rest : goal.returns-in_err-rest
 returns-in_err-rest g c =
-    let p = err_from_is_err_and c.from-residual-in_err-rest.result c.from-residual-in_err-rest.ensures.1 in
+    let p = err_from_is_err_and c.from_residual-in_err-rest.result c.from_residual-in_err-rest.ensures.1 in
     let k = g.K.NodeKind in
     let m = c.args.bytes.now in
     let f = field g (goal.at.returns-in_err-rest g c).In_ok-start in

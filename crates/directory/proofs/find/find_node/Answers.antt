@@ -22,7 +22,7 @@ at_link c = told c.args.place c.args.bytes.now 0x1A link_finds link (λ bs. refl
 
 pub returns-in_err-name : goal.returns-in_err-name
 returns-in_err-name c =
-    let p = err_from_is_err_and c.from-residual.result c.from-residual.ensures.1 in
+    let p = err_from_is_err_and c.from_residual.result c.from_residual.ensures.1 in
     record {
       value = ap (found_in c.args.bytes.now) p.1 ∙ ap (λ e. Err (refusal_of e)) p.2 ∙ c.in_err-name.ensures.value file ∙ at_file (goal.at.returns-in_err-name c).In-10;
       places = none _ _ _ p.1;
@@ -34,7 +34,7 @@ returns-in_ok-name c = record { value = c.in_ok-name.ensures.value file ∙ at_f
 
 pub returns-in_err-name-2 : goal.returns-in_err-name-2
 returns-in_err-name-2 c =
-    let p = err_from_is_err_and c.from-residual-in_err-name-2.result c.from-residual-in_err-name-2.ensures.1 in
+    let p = err_from_is_err_and c.from_residual-in_err-name-2.result c.from_residual-in_err-name-2.ensures.1 in
     record {
       value = ap (found_in c.args.bytes.now) p.1 ∙ ap (λ e. Err (refusal_of e)) p.2 ∙ c.in_err-name-2.ensures.value directory ∙ at_directory (goal.at.returns-in_err-name-2 c).In-18;
       places = none _ _ _ p.1;
@@ -46,7 +46,7 @@ returns-in_ok-name-2 c = record { value = c.in_ok-name-2.ensures.value directory
 
 pub returns-in_err-name-3 : goal.returns-in_err-name-3
 returns-in_err-name-3 c =
-    let p = err_from_is_err_and c.from-residual-in_err-name-3.result c.from-residual-in_err-name-3.ensures.1 in
+    let p = err_from_is_err_and c.from_residual-in_err-name-3.result c.from_residual-in_err-name-3.ensures.1 in
     record {
       value = ap (found_in c.args.bytes.now) p.1 ∙ ap (λ e. Err (refusal_of e)) p.2 ∙ c.in_err-name-3.ensures.value link ∙ at_link (goal.at.returns-in_err-name-3 c).In-26;
       places = none _ _ _ p.1;

@@ -11,7 +11,7 @@ read_section-requires c = (behind-files c.args.bytes.now c.requires.small c.args
 
 pub returns-in_err-section : goal.returns-in_err-section
 returns-in_err-section c =
-    let p = err_from_is_err_and c.from-residual.result c.from-residual.ensures.1 in
+    let p = err_from_is_err_and c.from_residual.result c.from_residual.ensures.1 in
     let b = behind-files c.args.bytes.now c.requires.small c.args.files c.requires.files in
     ap reported p.1 ∙ ap (λ f. Err (refusal_of f)) p.2
     ∙ section_refused _ (with_directories b.before) (directories_end b.before) (λ _. refl) _ c.in_err-section.ensures ∙ sym (ap (answered reached_of) b.on)

@@ -18,7 +18,7 @@ kept_read (Err d) s h = absurd (not_ok (sym h))
 
 pub returns-in_err-read_part : goal.returns-in_err-read_part
 returns-in_err-read_part c =
-    let p = err_from_is_err_and c.from-residual.result c.from-residual.ensures.1 in
+    let p = err_from_is_err_and c.from_residual.result c.from_residual.ensures.1 in
     record {
       value = ap reported p.1 ∙ ap (λ f. Err (refusal_of f)) p.2 ∙ kept_refused (directory_of c.args.bytes.now) _ c.in_err-read_part.ensures;
       accepted = only_canonical_is_accepted;

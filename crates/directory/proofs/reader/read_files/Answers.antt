@@ -13,7 +13,7 @@ read_section-requires c = none_sorted c.args.bytes.now
 
 pub returns-in_err-section : goal.returns-in_err-section
 returns-in_err-section c =
-    let p = err_from_is_err_and c.from-residual.result c.from-residual.ensures.1 in
+    let p = err_from_is_err_and c.from_residual.result c.from_residual.ensures.1 in
     let m = c.args.bytes.now in
     ap reported p.1 ∙ ap (λ f. Err (refusal_of f)) p.2
     ∙ section_refused (section_at 0x0A file_reads [] 0 m) with_files files_end (λ _. refl) _ (c.in_err-section.ensures ∙ ap (λ e. ends (section_at 0x0A file_reads e 0 m)) (sym (none-names m)))

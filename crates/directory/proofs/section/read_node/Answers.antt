@@ -20,7 +20,7 @@ field g c =
 
 pub returns-in_err-name : goal.returns-in_err-name
 returns-in_err-name g c =
-    let p = err_from_is_err_and c.from-residual-in_err-name.result c.from-residual-in_err-name.ensures.1 in
+    let p = err_from_is_err_and c.from_residual-in_err-name.result c.from_residual-in_err-name.ensures.1 in
     let k = g.K.NodeKind in
     let f = field g (goal.at.returns-in_err-name g c).In_ok-start in
     let w = c.in_ok-start.ensures.within in
@@ -42,7 +42,7 @@ inner g c =
 
 pub returns-in_err-earlier : goal.returns-in_err-earlier
 returns-in_err-earlier g c =
-    let p = err_from_is_err_and c.from-residual-in_err-earlier.result c.from-residual-in_err-earlier.ensures.1 in
+    let p = err_from_is_err_and c.from_residual-in_err-earlier.result c.from_residual-in_err-earlier.ensures.1 in
     let k = g.K.NodeKind in
     let f = field g (goal.at.returns-in_err-earlier g c).In_ok-start in
     let w = c.in_ok-start.ensures.within in
@@ -57,7 +57,7 @@ returns-in_err-earlier g c =
 
 pub returns-in_err-read_rest : goal.returns-in_err-read_rest
 returns-in_err-read_rest g c =
-    let p = err_from_is_err_and c.from-residual-in_err-read_rest.result c.from-residual-in_err-read_rest.ensures.1 in
+    let p = err_from_is_err_and c.from_residual-in_err-read_rest.result c.from_residual-in_err-read_rest.ensures.1 in
     let k = g.K.NodeKind in
     let f = field g (goal.at.returns-in_err-read_rest g c).In_ok-start in
     let w = c.in_ok-start.ensures.within in

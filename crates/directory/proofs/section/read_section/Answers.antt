@@ -35,7 +35,7 @@ read_node-requires g c = let i = c.loop-at.invariant in let a = i.4 in let t = c
 
 pub returns-in_err-node : goal.returns-in_err-node
 returns-in_err-node g c =
-    let p = err_from_is_err_and c.from-residual.result c.from-residual.ensures.1 in
+    let p = err_from_is_err_and c.from_residual.result c.from_residual.ensures.1 in
     let k = g.K.NodeKind in
     let i = c.loop-at.invariant in
     let m = c.args.bytes.now in

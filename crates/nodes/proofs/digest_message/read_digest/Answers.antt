@@ -11,7 +11,7 @@ returns-in_default c = no_hash c.args.start c.args.message.now _ (found 0x0A _ _
 
 pub returns-in_err-size : goal.returns-in_err-size
 returns-in_err-size c =
-    let p = err_from_is_err_and c.from-residual-in_err-size.result c.from-residual-in_err-size.ensures.1 in
+    let p = err_from_is_err_and c.from_residual-in_err-size.result c.from_residual-in_err-size.ensures.1 in
     ap reported_digest p.1 ∙ ap (λ f. Err (refusal_of f)) p.2
     ∙ no_size c.args.start c.args.message.now _ (found 0x0A _ _ _ c.in_ok-first.ensures.value) _ c.in-Ok.ensures.answer _ c.in_err-size.ensures.value
 

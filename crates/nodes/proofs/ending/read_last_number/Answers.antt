@@ -15,7 +15,7 @@ returns-then-message-start c = record {
 
 pub returns-in_err-number : goal.returns-in_err-number
 returns-in_err-number c =
-    let p = err_from_is_err_and c.from-residual.result c.from-residual.ensures.1 in
+    let p = err_from_is_err_and c.from_residual.result c.from_residual.ensures.1 in
     record {
       value =
           ap reported p.1 ∙ ap (λ f. Err (refusal_of f)) p.2
@@ -31,7 +31,7 @@ returns-then-number-lt1 c = record {
 
 pub returns-in_err-read_end : goal.returns-in_err-read_end
 returns-in_err-read_end c =
-    let p = err_from_is_err_and c.from-residual-in_err-read_end.result c.from-residual-in_err-read_end.ensures.1 in
+    let p = err_from_is_err_and c.from_residual-in_err-read_end.result c.from_residual-in_err-read_end.ensures.1 in
     let inside =
     last-inside c.args.tag c.args.most c.args.start c.args.message.now c.if-start-message.false c.if-message-start.false _ _ c.in_ok-number.ensures.value c.if-number-lt1.false c.if-number-most.false in
     record {

@@ -18,7 +18,7 @@ returns-then-start-message c =
 
 pub returns-in_err-length : goal.returns-in_err-length
 returns-in_err-length c =
-    let p = err_from_is_err_and c.from-residual.result c.from-residual.ensures.1 in
+    let p = err_from_is_err_and c.from_residual.result c.from_residual.ensures.1 in
     let lost = number-refused (c.args.start + 1) _ _ c.in_err-length.ensures.value in
     record {
       value =

@@ -52,7 +52,7 @@ overflow-cast-place g c =
 
 pub returns-in_err-judge_name : goal.returns-in_err-judge_name
 returns-in_err-judge_name g c =
-    let p = err_from_is_err_and c.from-residual.result c.from-residual.ensures.1 in
+    let p = err_from_is_err_and c.from_residual.result c.from_residual.ensures.1 in
     let k = g.K.NodeKind in
     let m = c.args.bytes.now in
     let name = c.args.name.now in

@@ -11,7 +11,7 @@ use Rattle.nodes.proofs.file.kind.FileNodeNodeKind.read_rest.Goals as goal
 
 pub returns-in_err-digest : goal.returns-in_err-digest
 returns-in_err-digest c =
-    let p = err_from_is_err_and c.from-residual-in_err-digest.result c.from-residual-in_err-digest.ensures.1 in
+    let p = err_from_is_err_and c.from_residual-in_err-digest.result c.from_residual-in_err-digest.ensures.1 in
     record {
       value = ap (valued file_value c.args.message.now) p.1 ∙ ap (λ f. Err (refusal_of f)) p.2
           ∙ file_refused c.args.start c.args.message.now _ (found 0x12 _ _ _ c.in_ok-first.ensures.value) c.in_ok-first.ensures.within.1 _ c.in_err-digest.ensures;
@@ -20,7 +20,7 @@ returns-in_err-digest c =
 
 pub returns-in_err-mark : goal.returns-in_err-mark
 returns-in_err-mark c =
-    let p = err_from_is_err_and c.from-residual-in_err-mark.result c.from-residual-in_err-mark.ensures.1 in
+    let p = err_from_is_err_and c.from_residual-in_err-mark.result c.from_residual-in_err-mark.ensures.1 in
     let is = file_ends c.args.start c.args.message.now _ (found 0x12 _ _ _ c.in_ok-first.ensures.value) c.in_ok-first.ensures.within.1 _ c.in_ok-digest.ensures in
     record {
       value = ap (valued file_value c.args.message.now) p.1 ∙ ap (λ f. Err (refusal_of f)) p.2

@@ -10,7 +10,7 @@ use Rattle.nodes.proofs.link.kind.LinkNodeNodeKind.read_rest.Goals as goal
 
 pub returns-in_err-judge_target : goal.returns-in_err-judge_target
 returns-in_err-judge_target c =
-    let p = err_from_is_err_and c.from-residual-in_err-judge_target.result c.from-residual-in_err-judge_target.ensures.1 in
+    let p = err_from_is_err_and c.from_residual-in_err-judge_target.result c.from_residual-in_err-judge_target.ensures.1 in
     record {
       value = ap (valued link_value c.args.message.now) p.1 ∙ ap (λ f. Err (refusal_of f)) p.2
           ∙ target_refused c.args.start c.args.message.now _ (found 0x12 _ _ _ c.in_ok-target.ensures.value) _ c.in_err-judge_target.ensures;
@@ -19,7 +19,7 @@ returns-in_err-judge_target c =
 
 pub returns-in_err-read_end : goal.returns-in_err-read_end
 returns-in_err-read_end c =
-    let p = err_from_is_err_and c.from-residual-in_err-read_end.result c.from-residual-in_err-read_end.ensures.1 in
+    let p = err_from_is_err_and c.from_residual-in_err-read_end.result c.from_residual-in_err-read_end.ensures.1 in
     let is = a_target c.args.start c.args.message.now _ (found 0x12 _ _ _ c.in_ok-target.ensures.value) c.in_ok-judge_target.ensures in
     record {
       value = ap (valued link_value c.args.message.now) p.1 ∙ ap (λ f. Err (refusal_of f)) p.2 ∙ ended-refused _ _ _ _ c.in_err-read_end.ensures ∙ sym is;
