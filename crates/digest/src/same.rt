@@ -1,21 +1,25 @@
-ghost use Rattle.std.specs.Prelude.{◌≡◌, Decides};
+ghost use Rattle.std.specs.Prelude.{◌≡◌, ◌&&◌, nat_eq};
+ghost use Rattle.std.specs.Bool.{Decides};
+ghost use Rattle.std.specs.Cmp.Lexicographic.{pointwise};
 ghost use Rattle.std.specs.Cmp.Rules.{comparing};
-ghost use Rattle.std.proofs.Common.{rules, arith};
-ghost use Rattle.std.specs.Cmp as Keys;
+ghost use Rattle.std.proofs.Common.{rules};
 
 use crate::digest::Digest;
 
 // Digests are equal when their hashes and their sizes are.
-impl PartialEq<Digest> for Digest {
-    ghost equals = { λ a b r. Decides r (a ≡ b) };
+impl PartialEq for Digest {
+    ghost eq = { λ a b. nat_eq a.size b.size && pointwise nat_eq a.hash.words b.hash.words };
 
-    ghost laws = { Keys.partial_equiv_from_equiv (first_of (Prim.search (comparing, rules), Prim.grind (arith, Self.row.coded.inj))) };
+    ghost laws = { Prim.search (comparing, rules) };
 
-    fn eq(&self, other: &Digest) -> bool {
+    fn eq(&self, other: &Digest) -> bool
+        ensures equals { result ≡ (nat_eq self.now.size other.now.size && pointwise nat_eq self.now.hash.words other.now.hash.words) }
+        ensures decides { Decides result (self.now ≡ other.now) }
+    {
         self.size == other.size && self.hash == other.hash
     }
 }
 
 impl Eq for Digest {
-    ghost laws = { first_of (Prim.search (comparing, rules), Prim.grind (arith, Self.row.coded.inj)) };
+    ghost laws = { Prim.search (comparing, rules) };
 }
