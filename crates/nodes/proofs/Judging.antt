@@ -10,6 +10,7 @@ use Rattle.wire.specs.Refusals.{Refusal, refused, next}
 use Rattle.wire.proofs.Finding.{Found}
 use Rattle.nodes.specs.Kinds.{part, target_at, judged_target, link_reads}
 use Rattle.nodes.specs.Endings.{ended}
+use Rattle.nodes.specs.Laws.{judged_target_is}
 use Rattle.nodes.specs.Names.{judged_name, name_at}
 
 -- a refusal at a span's start is one at the field's place
@@ -38,6 +39,7 @@ module _ (p : ℕ) (m : List ℕ) (s : Span) (f : Found 0x12 p m s) where
   linked : link_reads p (drop p m) ≡ next (target_at s.start (part m s)) (λ _. ended (part m s) s.end (drop s.end m))
   linked =
       ap (λ r. next r judged_target) f.is
+      ∙ judged_target_is f.piece
       ∙ (λ i. next (target_at (sym f.start i) (sym f.text i)) (λ _. ended (sym f.text i) (sym f.end i) (sym f.rest i)))
 
   pub target_refused : (r : Refusal) → Err r ≡ target_at s.start (part m s) → Err r ≡ link_reads p (drop p m)

@@ -10,7 +10,7 @@ use Rattle.texts.specs.Names.{is_target}
 use Rattle.texts.specs.Utf8.{is_text}
 use Rattle.wire.specs.Fields.{Piece, field_at, field_bytes}
 use Rattle.wire.specs.Numbers.{form, number_at}
-use Rattle.wire.specs.Refusals.{Refusal, next}
+use Rattle.wire.specs.Refusals.{Refusal, refused, next}
 use Rattle.wire.proofs.Fieldings.{went_on, passed, numbered, number_back, fielded, field_back}
 use Rattle.wire.proofs.Finding.{not_ok, same_ok}
 use Rattle.wire.proofs.Forms.{form-length}
@@ -28,19 +28,28 @@ pub link_accepts : (p : ℕ) (bs x : List ℕ) → link_reads p bs ≡ Ok x → 
 link_accepts p bs x e =
     let field = went_on (field_at 0x12 p bs) judged_target x e in
     let y = field.0 in
-    let judged = went_on (target_at y.place y.text) _ x field.2 in
-    let text = passed (is_text y.text) _ _ judged.0 judged.1 in
-    let target = passed (is_target y.text) _ _ judged.0 text.1 in
-    let end = ended_all y.text (y.place + length y.text) y.rest x judged.2 in
+    let text = passed (is_text y.text) _ _ x field.2 in
+    let target = passed (is_target y.text) _ _ x text.1 in
+    let end = ended_all y.text (y.place + length y.text) y.rest x target.1 in
     let whole : link_writes y.text ≡ bs = sym (append-nil (link_writes y.text)) ∙ ap (λ l. link_writes y.text ++ l) (sym end.0) ∙ sym (fielded 0x12 p bs y field.1).bytes in
     subst (λ t. (link_writes t ≡ bs) × SoundLink t) end.1 (whole, (text.0, target.0))
+
+judged_then : (text target : Bool) (p : ℕ) (r : Result (List ℕ) Refusal)
+    → cond text (cond target r (refused 19 p)) (refused 15 p) ≡ next {A = Unit {0}} (cond text (cond target (Ok tt) (refused 19 p)) (refused 15 p)) (λ _. r)
+judged_then true true p r = refl
+judged_then true false p r = refl
+judged_then false target p r = refl
+
+-- a target is judged before the end behind it
+pub judged_target_is : (x : Piece) → judged_target x ≡ next (target_at x.place x.text) (λ _. ended x.text (x.place + length x.text) x.rest)
+judged_target_is x = judged_then (is_text x.text) (is_target x.text) x.place (ended x.text (x.place + length x.text) x.rest)
 
 -- the field of any target, alone
 link_field : (p : ℕ) (t : List ℕ) → length t < 2 ^ 63 → field_at 0x12 p (link_writes t) ≡ Ok (record { text = t; place = p + 1 + length (form (length t)); rest = [] })
 link_field p t h = ap (field_at 0x12 p) (sym (append-nil (link_writes t))) ∙ field_back 0x12 p t [] h
 
 pub link_judges : (p : ℕ) (t : List ℕ) → length t < 2 ^ 63 → link_reads p (link_writes t) ≡ next (target_at (p + 1 + length (form (length t))) t) (λ _. Ok t)
-link_judges p t h = ap (λ r. next r judged_target) (link_field p t h)
+link_judges p t h = ap (λ r. next r judged_target) (link_field p t h) ∙ judged_target_is (record { text = t; place = p + 1 + length (form (length t)); rest = [] })
 
 target_fits : (x : List ℕ) → SoundLink x → length x < 2 ^ 63
 target_fits x s =

@@ -4,4 +4,4 @@ use Rattle.nodes.specs.Laws.{directory_returns}
 use Rattle.nodes.proofs.directory.kind.DirectoryNodeNodeKind.judge_rest.Goals as goal
 
 pub returns : goal.returns
-returns c = sym (ap verdict (directory_returns c.args.-start _ c.digest_is_sound.ensures))
+returns c = sym (ap verdict (directory_returns c.args._start _ c.digest_is_sound.ensures))
