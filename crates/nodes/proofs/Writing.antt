@@ -1,5 +1,5 @@
 -- A node written part by part. Assumes nothing.
-use Rattle.std.proofs.Common.{◌≡◌, ℕ, ◌+◌, ◌<◌, ◌≤◌, List, [], ◌∷◌, ◌++◌, length, set, Ok, Err, sym, refl, ap, ◌∙◌, append_assoc, arith, length-append}
+use Rattle.std.proofs.Common.{◌≡◌, ℕ, ◌+◌, ◌≤◌, List, [], ◌∷◌, ◌++◌, length, set, Ok, Err, sym, refl, ap, ◌∙◌, append_assoc, arith, length-append}
 use Rattle.wire.specs.Fields.{field_bytes}
 use Rattle.wire.specs.Numbers.{form}
 use Rattle.wire.specs.Writing.{written, ending, after}

@@ -3,7 +3,7 @@ use Rattle.std.proofs.Common.{◌≡◌, ℕ, ◌+◌, ◌-◌, ◌<◌, ◌≤�
 use Rattle.std.proofs.lemmas.List.{drop_more, drop_all, drop-drop, length-take-le}
 use Rattle.std.proofs.lemmas.Bool.{cond-true, cond-false, le-leb, lt-leb, eq-eqb, ne_eqb}
 use Rattle.wire.specs.Fields.{Piece, cut, field_at, spanned}
-use Rattle.wire.specs.Numbers.{front, or_refused, number_at}
+use Rattle.wire.specs.Numbers.{front, or_refused}
 use Rattle.wire.specs.Refusals.{Refusal, refused, next}
 
 -- what an answer of `number_at` says of the number in front

@@ -1,9 +1,7 @@
 use Rattle.std.proofs.Common.{◌≡◌, ℕ, ◌+◌, ◌-◌, ◌<◌, ◌≤◌, leb, length, sym, ap, ◌∙◌, ⊎_elim, arith}
 use Rattle.std.proofs.lemmas.Bool.{cases_lt, le-leb, lt-leb}
 use Rattle.wire.specs.Numbers.{form}
-use Rattle.nodes.specs.Nodes.{node_bytes}
 use Rattle.nodes.proofs.Writing.{node_length}
-use Rattle.nodes.proofs.node.node_has_room.Given as given
 use Rattle.nodes.proofs.node.node_has_room.Goals as goal
 use Rattle.nodes.proofs.node.node_has_room.Goals.{then-room-named-via-then-room-named, then-room-named-via-else-room-named+then-room-named-2}
 

@@ -1,4 +1,4 @@
-use Rattle.std.proofs.Common.{◌≡◌, ◌-◌, ◌≤◌, length, take, drop, ap, ◌∙◌, arith, length-drop, length-take}
+use Rattle.std.proofs.Common.{◌≤◌, length, ap, ◌∙◌, arith, length-drop, length-take}
 use Rattle.nodes.specs.Kinds.{part, link_writes}
 use Rattle.nodes.proofs.link.kind.LinkNodeNodeKind.rest_length.Goals as goal
 
