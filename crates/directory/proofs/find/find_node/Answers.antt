@@ -20,41 +20,41 @@ at_directory c = told c.args.place c.args.bytes.now 0x12 directory_reads directo
 at_link : (c : In-26) → found_as 0x1A link_finds link c.args.place (drop c.args.place c.args.bytes.now) ≡ found_at c.args.place (drop c.args.place c.args.bytes.now)
 at_link c = told c.args.place c.args.bytes.now 0x1A link_finds link (λ bs. refl) (omega arith) (sym c.byte_at.ensures ∙ c.in-26.is)
 
-pub returns-in_err-name : goal.returns-in_err-name
-returns-in_err-name c =
+pub returns-in_err-name-in-10 : goal.returns-in_err-name-in-10
+returns-in_err-name-in-10 c =
     let p = err_from_is_err_and c.from_residual.result c.from_residual.ensures.1 in
     record {
-      value = ap (found_in c.args.bytes.now) p.1 ∙ ap (λ e. Err (refusal_of e)) p.2 ∙ c.in_err-name.ensures.value file ∙ at_file (goal.at.returns-in_err-name c).In-10;
+      value = ap (found_in c.args.bytes.now) p.1 ∙ ap (λ e. Err (refusal_of e)) p.2 ∙ c.in_err-name-in-10.ensures.value file ∙ at_file (goal.at.returns-in_err-name-in-10 c).In-10;
       places = none _ _ _ p.1;
       listed = nodes_read_are_found;
     }
 
-pub returns-in_ok-name : goal.returns-in_ok-name
-returns-in_ok-name c = record { value = c.in_ok-name.ensures.value file ∙ at_file (goal.at.returns-in_ok-name c).In-10; places = tt; listed = nodes_read_are_found }
+pub returns-in_ok-name-in-10 : goal.returns-in_ok-name-in-10
+returns-in_ok-name-in-10 c = record { value = c.in_ok-name-in-10.ensures.value file ∙ at_file (goal.at.returns-in_ok-name-in-10 c).In-10; places = tt; listed = nodes_read_are_found }
 
-pub returns-in_err-name-2 : goal.returns-in_err-name-2
-returns-in_err-name-2 c =
-    let p = err_from_is_err_and c.from_residual-in_err-name-2.result c.from_residual-in_err-name-2.ensures.1 in
+pub returns-in_err-name-in-18 : goal.returns-in_err-name-in-18
+returns-in_err-name-in-18 c =
+    let p = err_from_is_err_and c.from_residual-in_err-name-in-18.result c.from_residual-in_err-name-in-18.ensures.1 in
     record {
-      value = ap (found_in c.args.bytes.now) p.1 ∙ ap (λ e. Err (refusal_of e)) p.2 ∙ c.in_err-name-2.ensures.value directory ∙ at_directory (goal.at.returns-in_err-name-2 c).In-18;
+      value = ap (found_in c.args.bytes.now) p.1 ∙ ap (λ e. Err (refusal_of e)) p.2 ∙ c.in_err-name-in-18.ensures.value directory ∙ at_directory (goal.at.returns-in_err-name-in-18 c).In-18;
       places = none _ _ _ p.1;
       listed = nodes_read_are_found;
     }
 
-pub returns-in_ok-name-2 : goal.returns-in_ok-name-2
-returns-in_ok-name-2 c = record { value = c.in_ok-name-2.ensures.value directory ∙ at_directory (goal.at.returns-in_ok-name-2 c).In-18; places = tt; listed = nodes_read_are_found }
+pub returns-in_ok-name-in-18 : goal.returns-in_ok-name-in-18
+returns-in_ok-name-in-18 c = record { value = c.in_ok-name-in-18.ensures.value directory ∙ at_directory (goal.at.returns-in_ok-name-in-18 c).In-18; places = tt; listed = nodes_read_are_found }
 
-pub returns-in_err-name-3 : goal.returns-in_err-name-3
-returns-in_err-name-3 c =
-    let p = err_from_is_err_and c.from_residual-in_err-name-3.result c.from_residual-in_err-name-3.ensures.1 in
+pub returns-in_err-name-in-26 : goal.returns-in_err-name-in-26
+returns-in_err-name-in-26 c =
+    let p = err_from_is_err_and c.from_residual-in_err-name-in-26.result c.from_residual-in_err-name-in-26.ensures.1 in
     record {
-      value = ap (found_in c.args.bytes.now) p.1 ∙ ap (λ e. Err (refusal_of e)) p.2 ∙ c.in_err-name-3.ensures.value link ∙ at_link (goal.at.returns-in_err-name-3 c).In-26;
+      value = ap (found_in c.args.bytes.now) p.1 ∙ ap (λ e. Err (refusal_of e)) p.2 ∙ c.in_err-name-in-26.ensures.value link ∙ at_link (goal.at.returns-in_err-name-in-26 c).In-26;
       places = none _ _ _ p.1;
       listed = nodes_read_are_found;
     }
 
-pub returns-in_ok-name-3 : goal.returns-in_ok-name-3
-returns-in_ok-name-3 c = record { value = c.in_ok-name-3.ensures.value link ∙ at_link (goal.at.returns-in_ok-name-3 c).In-26; places = c.in_ok-name-3.ensures.places; listed = nodes_read_are_found }
+pub returns-in_ok-name-in-26 : goal.returns-in_ok-name-in-26
+returns-in_ok-name-in-26 c = record { value = c.in_ok-name-in-26.ensures.value link ∙ at_link (goal.at.returns-in_ok-name-in-26 c).In-26; places = c.in_ok-name-in-26.ensures.places; listed = nodes_read_are_found }
 
 pub returns-in_default : goal.returns-in_default
 returns-in_default c = record { value = no_tag c.args.place c.args.bytes.now (λ e. omega arith) (λ e. omega arith) (λ e. omega arith); places = tt; listed = nodes_read_are_found }

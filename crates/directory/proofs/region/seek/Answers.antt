@@ -1,4 +1,5 @@
-use Rattle.std.proofs.Common.{[], take, sym, refl, ap, ◌∙◌, arith, length-take}
+use Rattle.std.proofs.Common.{[], ◌-◌, take, drop, sym, refl, ap, ◌∙◌, arith, length-take}
+use Rattle.std.proofs.lemmas.Bool.Decides.{Decides-eqb}
 use Rattle.std.proofs.lemmas.Slice.Eq.{slice_eq-Decides}
 use Rattle.std.proofs.lemmas.Bool.{cond-true, cond-false}
 use Rattle.directory.specs.Regions.{past}
@@ -13,7 +14,9 @@ returns-then-not-precedes c =
     let at = c.loop-at.at in
     let here = one_here m e at c.in-Some.field-0 c.in-Some.ensures.value in
     let done = sought m c.args.name.now c.args.region e at c.min-end.ensures c.loop-at.invariant _ here (cond-false _ _ _ (sym c.if-not-precedes.ensures)) in
-    record { left = done.0; met = decided _ _ _ (slice_eq-Decides _ _ _ c.eq.ensures) ∙ done.1 }
+    let n = c.in-Some.field-0.name in
+    let other = take (n.end - n.start) (drop n.start (take e m)) in
+    record { left = done.0; met = decided other c.args.name.now _ (slice_eq-Decides Decides-eqb other c.args.name.now _ c.eq.ensures) ∙ done.1 }
 
 pub loop-at-preserved : goal.loop-at-preserved
 loop-at-preserved c =
