@@ -44,8 +44,8 @@ overflow_add-body g c =
     let whole = l.whole in
     omega arith
 
-pub overflow-cast-place : goal.overflow-cast-place
-overflow-cast-place g c =
+pub overflow_cast-place : goal.overflow_cast-place
+overflow_cast-place g c =
     let l = lengths c.args.bytes.now c.args.name.now _ g.K.NodeKind.code _ _ (c.field_length.ensures.value 10) c.rest_length.ensures.value c.requires in
     let f = fits c.args.bytes.now c.args.name.now _ g.K.NodeKind.code _ _ _ _ l c.number_length.ensures.value c.number_length-2.ensures.value in
     omega arith
