@@ -126,7 +126,7 @@ pub fn check_so_far<P: Puts>(
     len: usize,
     rows: &[(&[u8], u8, usize)],
 ) -> Result<(), Fail> {
-    for (i, (bytes, number, place)) in rows.iter().enumerate() {
+    for (bytes, number, place) in rows {
         let mut buffer = filled(heap, &[*bytes], len)?;
         check_refused(
             rt,
@@ -137,8 +137,7 @@ pub fn check_so_far<P: Puts>(
                 (b".", b"", *number, *place),
                 (b"\xFF", b"\xFF", *number, *place),
             ],
-        )
-        .note(i)?;
+        )?;
     }
     Ok(())
 }
