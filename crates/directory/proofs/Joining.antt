@@ -1,9 +1,8 @@
 -- The sections that were read, as regions of the message. Assumes nothing.
-use Rattle.std.proofs.Common.{◌≡◌, ℕ, zero, suc, ◌+◌, ◌-◌, ◌^◌, ◌<◌, ◌≤◌, leb, List, [], ◌∷◌, ◌++◌, length, take, drop, Ok, Err, Result, sym, refl, ap, ◌∙◌, subst, append_assoc, append-nil, arith, length-append}
+use Rattle.std.proofs.Common.{◌≡◌, ℕ, zero, suc, ◌+◌, ◌-◌, ◌<◌, ◌≤◌, leb, List, [], ◌∷◌, ◌++◌, length, take, drop, Ok, Err, Result, sym, refl, ap, ◌∙◌, subst, append_assoc, append-nil, arith, length-append}
 use Rattle.std.proofs.lemmas.List.{drop_at, drop_more, drop_all, take-append-drop, length-take-le}
 use Rattle.std.proofs.lemmas.Bool.{cond-true, le-leb}
 use Rattle.digest.specs.Digests.{Value}
-use Rattle.wire.specs.declared.field.Span.{Span}
 use Rattle.wire.specs.Refusals.{Refusal, refused, next}
 use Rattle.wire.proofs.Fieldings.{went_on}
 use Rattle.wire.proofs.Finding.{not_ok, same_ok}
@@ -21,7 +20,7 @@ use Rattle.directory.specs.Regions.{names_in, names_up_to, Ascending}
 use Rattle.directory.specs.Sections.{Node, Section, names, nobody, section_at}
 use Rattle.directory.specs.Steps.{earlier_names, Sorted, ends, end_of, reached_of}
 use Rattle.directory.proofs.Fronts.{names_within}
-use Rattle.directory.proofs.OneSection.{Accepted, accepted}
+use Rattle.directory.proofs.OneSection.{accepted}
 
 -- no region, no names
 none_in : (k : ℕ) → names_up_to k [] ≡ []

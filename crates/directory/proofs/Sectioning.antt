@@ -1,10 +1,9 @@
 -- One node of a section on. Assumes nothing.
-use Rattle.std.proofs.Common.{◌≡◌, ℕ, zero, suc, ◌+◌, ◌-◌, ◌<◌, ◌≤◌, Bool, true, false, cond, ◌||◌, eqb, List, [], ◌∷◌, ◌++◌, length, get_or, take, drop, Ok, Err, Result, sym, refl, ap, ◌∙◌, subst, ⊎_elim, arith, length-drop}
+use Rattle.std.proofs.Common.{◌≡◌, ℕ, zero, suc, ◌+◌, ◌-◌, ◌<◌, ◌≤◌, Bool, true, cond, ◌||◌, eqb, List, [], ◌∷◌, ◌++◌, length, get_or, take, drop, Ok, Err, Result, sym, refl, ap, ◌∙◌, ⊎_elim, arith, length-drop}
 use mathlib.Core.Bool.{or_assoc}
 use Rattle.std.proofs.lemmas.Bool.{cases_Bool, cond-true, cond-false, eq-eqb, ne_eqb}
 use Rattle.std.proofs.lemmas.List.{drop_more, drop_all, length-take-le}
 use Rattle.texts.specs.Order.{before}
-use Rattle.wire.specs.declared.field.Span.{Span}
 use Rattle.wire.specs.Fields.{Piece, field_at, span_of}
 use Rattle.wire.specs.Refusals.{Refusal, refused, next}
 use Rattle.wire.proofs.Fieldings.{went_on, passed}
@@ -12,7 +11,6 @@ use Rattle.wire.proofs.Finding.{not_ok, same_ok, lies}
 use Rattle.nodes.specs.Kinds.{part}
 use Rattle.nodes.specs.Names.{name_at}
 use Rattle.nodes.proofs.Nesting.{cut-part}
-use Rattle.directory.specs.declared.section.SectionEnd.{SectionEnd}
 use Rattle.std.specs.Str.{bytes_eq as same}
 use Rattle.directory.specs.Sections.{Named, Section, among, placed, node_at, section, onto, nothing}
 use Rattle.directory.specs.Regions.{met}

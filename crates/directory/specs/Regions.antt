@@ -2,7 +2,7 @@
 use Rattle.std.specs.Prelude.{◌≡◌, ℕ, zero, suc, Bool, true, false, cond, List, [], ◌∷◌, length, drop, Ok, Err, Result, slice_index}
 use Rattle.texts.specs.Order.{before}
 use Rattle.wire.specs.declared.field.Span.{Span}
-use Rattle.wire.specs.Fields.{Piece, field_at}
+use Rattle.wire.specs.Fields.{field_at}
 use Rattle.wire.specs.Refusals.{Refusal, next}
 use Rattle.nodes.specs.Kinds.{part}
 use Rattle.directory.specs.declared.region.NodePlace.{NodePlace}

@@ -1,5 +1,5 @@
 -- What the reader's own functions promise each other.
-use Rattle.std.specs.Prelude.{◌≡◌, ℕ, ◌+◌, ◌<◌, ◌≤◌, Bool, ◌||◌, List, [], ◌++◌, length, drop, Ok, Err, Result}
+use Rattle.std.specs.Prelude.{◌≡◌, ℕ, ◌+◌, ◌≤◌, Bool, ◌||◌, List, [], ◌++◌, length, Ok, Err, Result}
 use Rattle.wire.specs.declared.fault.ReadFault.{ReadFault}
 use Rattle.wire.specs.declared.field.Span.{Span}
 use Rattle.wire.specs.Fields.{Piece, field_at, span_of}
@@ -11,7 +11,7 @@ use Rattle.directory.specs.declared.section.NodeEnd.{NodeEnd}
 use Rattle.directory.specs.declared.section.SectionEnd.{SectionEnd}
 use Rattle.directory.specs.Directories.{Reading, so_far_of}
 use Rattle.directory.specs.Regions.{names_in, Ascending, past, met}
-use Rattle.directory.specs.Sections.{Named, Section, placed, node_at, section_at}
+use Rattle.directory.specs.Sections.{Named, Section, placed, node_at}
 
 -- whether a name is met in the earlier sections
 abbrev pub met_in : List ℕ → Earlier → List ℕ → Bool

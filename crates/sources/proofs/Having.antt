@@ -3,9 +3,7 @@ use Rattle.std.proofs.Common.{◌≡◌, ℕ, Bool, true, false, ◌&&◌, eqb, 
 use mathlib.Core.Bool.{false≢true}
 use Rattle.std.proofs.lemmas.Slice.Eq.{bytes_eq-Decides}
 use Rattle.std.proofs.lemmas.Bool.{eq-eqb, eqb-true, and_parts, and_from}
-use Rattle.std.proofs.lemmas.Bool.Decides.{Decides-like}
 use Rattle.std.specs.Str.{bytes_eq as same}
-use Rattle.hash.specs.declared.hash.Hash.{Hash}
 use Rattle.digest.specs.Digests.{Value, value_of, digest_of}
 use Rattle.digest.specs.declared.digest.Digest.{Digest}
 use Rattle.digest.proofs.Equality.{same_digest}

@@ -1,5 +1,5 @@
 -- The verifying source's bytes are as many as the digest's size, since those below are.
-use Rattle.std.specs.Prelude.{◌≡◌, ℕ, Bool, true, false, cond, List, length, refl}
+use Rattle.std.specs.Prelude.{◌≡◌, ℕ, Bool, true, false, cond, List, length}
 use Rattle.std.proofs.Common.{arith}
 use Rattle.digest.specs.Digests.{Value}
 use Rattle.sources.specs.Held.{Held, Nothing, Spoiled, Bytes}

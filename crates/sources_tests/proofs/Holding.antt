@@ -1,5 +1,5 @@
 -- What three listed bytes are fetched as. Assumes nothing.
-use Rattle.std.proofs.Common.{◌≡◌, ℕ, ◌≤◌, Bool, true, false, cond, not, ◌&&◌, eqb, ltb, List, ◌++◌, length, drop, Ok, Err, sym, refl, ap, ◌∙◌, true≢false}
+use Rattle.std.proofs.Common.{◌≡◌, ℕ, ◌≤◌, Bool, true, false, cond, not, ◌&&◌, eqb, ltb, List, length, Ok, sym, refl, ap, ◌∙◌, true≢false}
 use Rattle.std.proofs.lemmas.Bool.{cond-false, le-ltb, eq-eqb}
 use Rattle.digest.specs.Digests.{Value}
 use Rattle.sources.specs.Fetching.{told, put, fetched, after}

@@ -1,6 +1,5 @@
 -- A node judged before it is written, and read once it stands there. Assumes nothing.
-use Rattle.std.proofs.Common.{◌≡◌, ℕ, ◌+◌, ◌≤◌, Bool, true, false, cond, ◌||◌, eqb, leb, List, [], ◌++◌, length, take, Ok, Err, Result, sym, refl, ap, ◌∙◌, subst, arith, length-append}
-use Rattle.std.proofs.lemmas.List.{length-take-le}
+use Rattle.std.proofs.Common.{◌≡◌, ℕ, ◌+◌, ◌≤◌, Bool, true, false, cond, ◌||◌, eqb, List, [], ◌++◌, length, Ok, Err, Result, sym, refl, ap, ◌∙◌}
 use Rattle.std.proofs.lemmas.Bool.{cond-true, leb-true}
 use Rattle.wire.specs.Fields.{field_bytes}
 use Rattle.wire.specs.Refusals.{Refusal, refused, next}
@@ -13,7 +12,7 @@ use Rattle.directory.specs.declared.part.Part.{Part}
 use Rattle.directory.specs.declared.part.Part.TheVariants.{Files, Directories, Links}
 use Rattle.directory.specs.declared.part.SoFar.{SoFar}
 use Rattle.directory.specs.Directories.{Reading, part_of, answered, so_far_of}
-use Rattle.directory.specs.Regions.{met, names_in, Ascending}
+use Rattle.directory.specs.Regions.{met, Ascending}
 use Rattle.directory.specs.Sections.{names, among, node_at}
 use Rattle.directory.proofs.Ascents.{met-among}
 use Rattle.directory.proofs.Joining.{Regions, regions, was}

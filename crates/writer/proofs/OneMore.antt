@@ -9,7 +9,7 @@ use Rattle.wire.proofs.Fieldings.{went_on, passed, Fielded, fielded}
 use Rattle.wire.proofs.Finding.{same_ok}
 use Rattle.nodes.specs.Kinds.{part}
 use Rattle.nodes.specs.Names.{judged_name, name_at}
-use Rattle.directory.specs.Sections.{Node, Named, Section, among, placed, onto, nothing, node_at, section, nobody, section_at}
+use Rattle.directory.specs.Sections.{Node, Named, Section, among, placed, onto, node_at, section, nobody, section_at}
 use Rattle.directory.proofs.OneSection.{judged, free, no_node, node_in_front, step}
 use Rattle.directory.proofs.Onward.{last_name, onto_all, appended}
 use Rattle.writer.specs.Growing.{inside}

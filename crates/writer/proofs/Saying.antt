@@ -3,9 +3,9 @@ use Rattle.std.proofs.Common.{◌≡◌, ℕ, ◌+◌, ◌^◌, ◌<◌, Bool, t
 use Rattle.texts.specs.Names.{is_name}
 use Rattle.texts.specs.Order.{before}
 use Rattle.texts.specs.Utf8.{is_text}
-use Rattle.wire.specs.Fields.{Piece, field_at, field_bytes}
+use Rattle.wire.specs.Fields.{Piece, field_bytes}
 use Rattle.wire.specs.Numbers.{form}
-use Rattle.wire.specs.Refusals.{Refusal, refused, next}
+use Rattle.wire.specs.Refusals.{Refusal, next}
 use Rattle.wire.proofs.Fieldings.{field_back}
 use Rattle.nodes.specs.Names.{judged_name}
 use Rattle.nodes.specs.Values.{verdict}

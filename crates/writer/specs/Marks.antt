@@ -1,5 +1,5 @@
 -- How the writer's own parts stand for its state.
-use Rattle.std.specs.Prelude.{ℕ, cond, List, length, Ok, Err, Result, ◌==◌}
+use Rattle.std.specs.Prelude.{ℕ, cond, List, length, Result, ◌==◌}
 use Rattle.wire.specs.Refusals.{Refusal, refused}
 use Rattle.directory.specs.declared.part.Part.{Part}
 use Rattle.directory.specs.declared.part.SoFar.{SoFar}

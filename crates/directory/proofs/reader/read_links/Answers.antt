@@ -1,9 +1,9 @@
-use Rattle.std.proofs.Common.{◌≡◌, Ok, Err, sym, refl, ap, ◌∙◌}
+use Rattle.std.proofs.Common.{Ok, Err, sym, refl, ap, ◌∙◌}
 use Rattle.std.proofs.lemmas.Result.{err_from_is_err_and}
 use Rattle.wire.specs.Refusals.{reported, refusal_of}
 use Rattle.directory.specs.Directories.{with_links, answered}
 use Rattle.directory.specs.Steps.{reached_of}
-use Rattle.directory.proofs.Joining.{BehindBoth, behind-both, section_refused, section_read, links_end}
+use Rattle.directory.proofs.Joining.{behind-both, section_refused, section_read, links_end}
 use Rattle.directory.proofs.reader.read_links.Goals as goal
 
 pub read_section-requires : goal.read_section-requires

@@ -1,12 +1,11 @@
-use Rattle.std.proofs.Common.{◌≡◌, ℕ, ◌-◌, ◌≤◌, length, take, drop, Ok, Err, sym, ap, ◌∙◌, subst, arith}
+use Rattle.std.proofs.Common.{◌≡◌, ◌-◌, ◌≤◌, drop, Err, ap, ◌∙◌, arith}
 use Rattle.std.proofs.lemmas.List.{length-take-le}
 use Rattle.std.proofs.lemmas.Result.{err_from_is_err_and}
 use Rattle.wire.specs.Fields.{spanned, field_at}
 use Rattle.wire.specs.Refusals.{refusal_of}
 use Rattle.wire.proofs.Finding.{Found, found}
-use Rattle.nodes.specs.Kinds.{part}
 use Rattle.nodes.proofs.Judging.{none}
-use Rattle.directory.specs.Steps.{met_in, extent, extent_of}
+use Rattle.directory.specs.Steps.{extent_of}
 use Rattle.directory.proofs.Reaching.{name_refused, place-refused, rest-refused, node-read}
 use Rattle.directory.proofs.section.read_node.Given as given
 use Rattle.directory.proofs.section.read_node.Goals as goal

@@ -1,9 +1,9 @@
-use Rattle.std.proofs.Common.{◌≡◌, ℕ, ◌+◌, ◌-◌, ◌<◌, ◌≤◌, true, List, [], length, get_or, take, drop, Ok, Err, sym, refl, ap, ◌∙◌, subst, arith}
+use Rattle.std.proofs.Common.{◌≡◌, ℕ, ◌-◌, true, List, [], length, take, drop, Ok, Err, sym, ap, ◌∙◌, subst, arith}
 use Rattle.std.proofs.lemmas.Result.{err_from_is_err_and}
 use Rattle.texts.specs.Order.{before}
 use Rattle.wire.specs.Refusals.{refusal_of, reported}
 use Rattle.nodes.specs.Kinds.{part}
-use Rattle.directory.specs.Regions.{names_in, past}
+use Rattle.directory.specs.Regions.{past}
 use Rattle.directory.specs.Sections.{among, section}
 use Rattle.directory.specs.Steps.{met_in, earlier_names, ends}
 use Rattle.directory.proofs.Ascents.{Passed, passed_none, passed_on}

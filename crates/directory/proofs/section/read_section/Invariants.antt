@@ -1,8 +1,6 @@
-use Rattle.std.proofs.Common.{◌≡◌, ℕ, ◌+◌, ◌-◌, ◌≤◌, List, [], length, drop}
-use Rattle.wire.specs.Fields.{Piece}
+use Rattle.std.proofs.Common.{◌≡◌, ℕ, ◌+◌, ◌-◌, ◌≤◌, List, length, drop}
 use Rattle.wire.specs.declared.field.Span.{Span}
 use Rattle.nodes.specs.Kinds.{part}
-use Rattle.directory.specs.declared.section.Earlier.{Earlier}
 use Rattle.directory.specs.Regions.{names_in}
 use Rattle.directory.specs.Sections.{among, section, section_at}
 use Rattle.directory.specs.Steps.{ends, earlier_names}

@@ -1,4 +1,4 @@
-use Rattle.std.proofs.Common.{◌≡◌, ℕ, ◌+◌, ◌≤◌, true, List, ◌++◌, length, take, Ok, Err, Result, sym, ap, ◌∙◌, arith, length-append}
+use Rattle.std.proofs.Common.{◌≡◌, ℕ, ◌+◌, ◌≤◌, true, List, ◌++◌, length, take, Ok, Result, sym, ap, ◌∙◌, arith, length-append}
 use Rattle.std.proofs.lemmas.List.{length-take-le}
 use Rattle.std.proofs.lemmas.Bool.{cond-true, leb-true, eqb-true}
 use Rattle.wire.specs.Fields.{field_bytes}
@@ -9,7 +9,6 @@ use Rattle.writer.specs.declared.mark.Mark.{Mark}
 use Rattle.writer.specs.Marks.{marked_in, checked}
 use Rattle.writer.specs.States.{buffer_after}
 use Rattle.writer.proofs.Adding.{judged, kept, added-refused, added_taken}
-use Rattle.writer.proofs.add.add_node.Given as given
 use Rattle.writer.proofs.add.add_node.Goals as goal
 
 -- the bytes so far with the node fit the buffer

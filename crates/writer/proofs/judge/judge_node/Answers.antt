@@ -1,4 +1,4 @@
-use Rattle.std.proofs.Common.{◌≡◌, ℕ, ◌+◌, ◌≤◌, List, ◌++◌, length, Err, sym, ap, ◌∙◌, arith, length-append}
+use Rattle.std.proofs.Common.{◌≡◌, ℕ, ◌+◌, ◌≤◌, List, ◌++◌, length, Err, ap, ◌∙◌, arith, length-append}
 use Rattle.std.proofs.lemmas.Result.{err_from_is_err_and}
 use Rattle.wire.specs.Fields.{field_bytes}
 use Rattle.wire.specs.Numbers.{form}
@@ -8,7 +8,6 @@ use Rattle.nodes.specs.Nodes.{node_bytes}
 use Rattle.writer.specs.Growing.{inside}
 use Rattle.writer.specs.Judging.{met_before}
 use Rattle.writer.proofs.Saying.{name_refused, rest_decides}
-use Rattle.writer.proofs.judge.judge_node.Given as given
 use Rattle.writer.proofs.judge.judge_node.Goals as goal
 
 -- what the node takes

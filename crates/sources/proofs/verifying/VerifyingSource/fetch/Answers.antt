@@ -1,4 +1,4 @@
-use Rattle.std.proofs.Common.{◌≡◌, ℕ, ◌≤◌, length, take, replicate, sym, ap, ◌∙◌, arith, length-drop}
+use Rattle.std.proofs.Common.{replicate, ap, ◌∙◌}
 use Rattle.digest.specs.Digests.{value_of}
 use Rattle.sources.specs.Verified.{verified}
 use Rattle.sources.proofs.Fetched.{Fetched, given, front_length, true-answer, true-buffer, false-answer, false-buffer}

@@ -1,4 +1,4 @@
-use Rattle.std.proofs.Common.{◌≡◌, ◌++◌, length, drop, Ok, sym, refl, ap, ◌∙◌, arith}
+use Rattle.std.proofs.Common.{◌++◌, drop, Ok, sym, refl, ◌∙◌, arith}
 use Rattle.digest.specs.Digests.{value_of}
 use Rattle.sources.specs.Held.{Nothing, Bytes}
 use Rattle.sources.specs.Verified.{answers}
