@@ -207,9 +207,9 @@ module _ (m : List ℕ) (small : length m ≤ 16777216) where
   -- the files and directories that were read, as regions of the message
   pub record Regions (q : Reading) : Type 0 where
     pub files : names_in m (record { start = 0; end = q.sections.directories }) ≡ names q.nodes.files
-    pub files-ascend : Ascending [] (names q.nodes.files)
+    pub files_ascend : Ascending [] (names q.nodes.files)
     pub directories : names_in m (record { start = q.sections.directories; end = q.sections.links }) ≡ names q.nodes.directories
-    pub directories-ascend : Ascending [] (names q.nodes.directories)
+    pub directories_ascend : Ascending [] (names q.nodes.directories)
 
   empty_at : (p : ℕ) → names_in m (record { start = p; end = p }) ≡ []
   empty_at p = let z : p - p ≡ 0 = omega arith in ap (λ k. names_up_to (length m) (take k (drop p m))) z ∙ none_in (length m)
@@ -219,9 +219,9 @@ module _ (m : List ℕ) (small : length m ≤ 16777216) where
       let b = both q e in
       let made : Regions (with_directories (with_files b.first) b.second) = record {
         files = b.files.found;
-        files-ascend = b.files.ascend;
+        files_ascend = b.files.ascend;
         directories = b.directories.found;
-        directories-ascend = b.directories.ascend;
+        directories_ascend = b.directories.ascend;
       } in
       subst Regions b.is made
 
@@ -230,9 +230,9 @@ module _ (m : List ℕ) (small : length m ≤ 16777216) where
       let f = files q e in
       let made : Regions (with_files f.section) = record {
         files = f.region.found;
-        files-ascend = f.region.ascend;
+        files_ascend = f.region.ascend;
         directories = empty_at f.section.place;
-        directories-ascend = tt;
+        directories_ascend = tt;
       } in
       subst Regions f.is made
   regions Directories q e = of_both q e
@@ -242,9 +242,9 @@ module _ (m : List ℕ) (small : length m ≤ 16777216) where
       let b = both w.0 w.1 in
       let made : Regions (with_links (with_directories (with_files b.first) b.second) v.0) = record {
         files = b.files.found;
-        files-ascend = b.files.ascend;
+        files_ascend = b.files.ascend;
         directories = b.directories.found;
-        directories-ascend = b.directories.ascend;
+        directories_ascend = b.directories.ascend;
       } in
       subst Regions (ap (λ k. with_links k v.0) b.is ∙ same_ok v.2) made
 
@@ -274,8 +274,8 @@ module _ (m : List ℕ) (small : length m ≤ 16777216) where
         let end : here.0.place ≡ reached.end = ap (λ k. k.end) here.2 in
         λ i. ended here.0 (end i) ((rest_is p here.0 here.1 ∙ ap (λ k. drop k m) end) i)
 
-    pub part-followed : reached.end < length m → refused 13 reached.end ≡ answered so_far_of (part_of p m)
-    part-followed h = sym (ap (answered so_far_of) (opened ∙ closed_at ∙ ap (ended here.0 reached.end) (drop_more m reached.end 0 h)))
+    pub part_followed : reached.end < length m → refused 13 reached.end ≡ answered so_far_of (part_of p m)
+    part_followed h = sym (ap (answered so_far_of) (opened ∙ closed_at ∙ ap (ended here.0 reached.end) (drop_more m reached.end 0 h)))
 
-    pub part-ended : length m ≤ reached.end → Ok reached.so_far ≡ answered so_far_of (part_of p m)
-    part-ended h = sym (ap (answered so_far_of) (opened ∙ closed_at ∙ ap (ended here.0 reached.end) (drop_all reached.end m h)) ∙ ap (λ k. Ok k.so_far) here.2)
+    pub part_ended : length m ≤ reached.end → Ok reached.so_far ≡ answered so_far_of (part_of p m)
+    part_ended h = sym (ap (answered so_far_of) (opened ∙ closed_at ∙ ap (ended here.0 reached.end) (drop_all reached.end m h)) ∙ ap (λ k. Ok k.so_far) here.2)

@@ -51,11 +51,11 @@ module _ {V : Type 0} (t : ℕ) (finds : ℕ → List ℕ → Result V Refusal) 
         ∙ ap (λ r. next r (behind s.end)) g.is
         ∙ (λ i. next (finds (sym g.end i) (sym g.rest i)) (λ v. Ok (record { item = item (record { name = (sym g.text ∙ part_cut m s.end n a b) i; rest = v }); name = record { start = sym g.start i; end = sym g.end i }; end = s.end })))
 
-    pub rest-refused : (r : Refusal) → Err r ≡ finds n.end (drop n.end cut) → Err r ≡ found_as t finds item p (drop p m)
-    rest-refused r e = sym (at_name ∙ ap (λ x. next x ending) (sym e))
+    pub rest_refused : (r : Refusal) → Err r ≡ finds n.end (drop n.end cut) → Err r ≡ found_as t finds item p (drop p m)
+    rest_refused r e = sym (at_name ∙ ap (λ x. next x ending) (sym e))
 
-    pub node-found : (v : V) → Ok v ≡ finds n.end (drop n.end cut) → ending v ≡ found_as t finds item p (drop p m)
-    node-found v e = sym (at_name ∙ ap (λ x. next x ending) (sym e))
+    pub node_found : (v : V) → Ok v ≡ finds n.end (drop n.end cut) → ending v ≡ found_as t finds item p (drop p m)
+    node_found v e = sym (at_name ∙ ap (λ x. next x ending) (sym e))
 
 -- a node of any kind, by what stands at p
 module _ (p : ℕ) (m : List ℕ) where

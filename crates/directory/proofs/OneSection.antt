@@ -129,8 +129,8 @@ module _ {V : Type 0} (tag : ℕ) (reads : ℕ → List ℕ → Result V Refusal
         } in
         subst (Noded prev body) (same_ok value.2) made
 
-    accepted-more : (k : ℕ) (prev : Piece) (p : ℕ) (bs : List ℕ) (s : Section V) (t : Step tag reads taken prev p k bs s) → Accepted t.node.name.text (t.field.place + length t.field.text) t.field.rest t.more → Accepted prev.text p bs s
-    accepted-more k prev p bs s t a =
+    accepted_more : (k : ℕ) (prev : Piece) (p : ℕ) (bs : List ℕ) (s : Section V) (t : Step tag reads taken prev p k bs s) → Accepted t.node.name.text (t.field.place + length t.field.text) t.field.rest t.more → Accepted prev.text p bs s
+    accepted_more k prev p bs s t a =
         let x = t.field in
         let n = t.node in
         let f = t.fielded in
@@ -159,7 +159,7 @@ module _ {V : Type 0} (tag : ℕ) (reads : ℕ → List ℕ → Result V Refusal
         ⊎_elim
         (λ t.
         let less = t.shorter in
-        accepted-more k prev p (b ∷ bs) s t (accepted k t.node.name (t.field.place + length t.field.text) t.field.rest t.more (omega arith) t.read))
+        accepted_more k prev p (b ∷ bs) s t (accepted k t.node.name (t.field.place + length t.field.text) t.field.rest t.more (omega arith) t.read))
         (λ none. accepted_none prev p (b ∷ bs) s none.0 none.1)
         (step tag reads taken prev p k b bs s e)
 

@@ -68,8 +68,8 @@ module _ (p : ℕ) (m : List ℕ) where
         let body = drop s.start (take s.end m) in
         stopped (field_at 0x0A 0 body) (λ y. Ok (record { name = y.text; rest = drop s.end m })) (no_field 0x0A s.start 0 body e n) ∙ ap result_ok (sym opened)
 
-    pub node-found : (n : Span) → Found 0x0A s.start (take s.end m) n → n.end ≤ s.end → Some (record { name = part m n; rest = drop s.end m }) ≡ result_ok (front_of (drop p m))
-    node-found n g l =
+    pub node_found : (n : Span) → Found 0x0A s.start (take s.end m) n → n.end ≤ s.end → Some (record { name = part m n; rest = drop s.end m }) ≡ result_ok (front_of (drop p m))
+    node_found n g l =
         let body = drop s.start (take s.end m) in
         let text : g.piece.text ≡ part m n = sym g.text ∙ cut-part m s.end n l in
         sym (ap result_ok (opened ∙ ap (λ r. next r (λ y. Ok (record { name = y.text; rest = drop s.end m }))) (elsewhere 0x0A s.start 0 body g.piece g.is)

@@ -72,8 +72,8 @@ module _ {V : Type 0} (t : ℕ) (reads : ℕ → List ℕ → Result V Refusal) 
         ∙ ap (λ x. next (next x judging) ending) (name_found s.start cut n g).is
         ∙ ap (λ x. next (judging (record { text = x; place = n.start; rest = drop n.end cut })) ending) (part_cut m s.end n a b)
 
-    pub place-refused : (r : Refusal) → Err r ≡ placed prev taken named → Err r ≡ extent t reads taken prev at (drop at m)
-    place-refused r e = sym (at_name ∙ ap (λ x. next (next x (λ y. next (reads (y.place + length y.text) y.rest) (λ v. Ok (record { name = y; value = v })))) ending) (sym e))
+    pub place_refused : (r : Refusal) → Err r ≡ placed prev taken named → Err r ≡ extent t reads taken prev at (drop at m)
+    place_refused r e = sym (at_name ∙ ap (λ x. next (next x (λ y. next (reads (y.place + length y.text) y.rest) (λ v. Ok (record { name = y; value = v })))) ending) (sym e))
 
     module _ (k : Ok named ≡ placed prev taken named) where
       at_rest : extent t reads taken prev at (drop at m) ≡ next (next (reads n.end (drop n.end cut)) (λ v. Ok (record { name = named; value = v }))) ending
@@ -82,8 +82,8 @@ module _ {V : Type 0} (t : ℕ) (reads : ℕ → List ℕ → Result V Refusal) 
           ∙ ap (λ x. next (next x (λ y. next (reads (y.place + length y.text) y.rest) (λ v. Ok (record { name = y; value = v })))) ending) (sym k)
           ∙ ap (λ p. next (next (reads p (drop n.end cut)) (λ v. Ok (record { name = named; value = v }))) ending) (part_length m n a l)
 
-      pub rest-refused : (r : Refusal) → Err r ≡ reads n.end (drop n.end cut) → Err r ≡ extent t reads taken prev at (drop at m)
-      rest-refused r e = sym (at_rest ∙ ap (λ x. next (next x (λ v. Ok (record { name = named; value = v }))) ending) (sym e))
+      pub rest_refused : (r : Refusal) → Err r ≡ reads n.end (drop n.end cut) → Err r ≡ extent t reads taken prev at (drop at m)
+      rest_refused r e = sym (at_rest ∙ ap (λ x. next (next x (λ v. Ok (record { name = named; value = v }))) ending) (sym e))
 
       pub node-read : (v : V) → Ok v ≡ reads n.end (drop n.end cut) → Ok (record { name = n; end = s.end }) ≡ extent t reads taken prev at (drop at m)
       node-read v e =

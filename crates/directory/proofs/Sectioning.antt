@@ -79,11 +79,11 @@ module _ {V : Type 0} (t : ℕ) (reads : ℕ → List ℕ → Result V Refusal) 
   stops_empty (suc f) prev p = refl
 
   module _ (m : List ℕ) (at : ℕ) (f : ℕ) (prev : Piece) where
-    pub stop-at-end : length m ≤ at → ends (section t reads taken f prev at (drop at m)) ≡ Ok (record { last = span_of prev; end = at })
-    stop-at-end h = ap ends (ap (section t reads taken f prev at) (drop_all at m h) ∙ stops_empty f prev at)
+    pub stop_at_end : length m ≤ at → ends (section t reads taken f prev at (drop at m)) ≡ Ok (record { last = span_of prev; end = at })
+    stop_at_end h = ap ends (ap (section t reads taken f prev at) (drop_all at m h) ∙ stops_empty f prev at)
 
-    pub stop-at-other : at < length m → (get_or m at 0 ≡ t → ⊥) → ends (section t reads taken f prev at (drop at m)) ≡ Ok (record { last = span_of prev; end = at })
-    stop-at-other h n = ap ends (ap (section t reads taken f prev at) (drop_more m at 0 h) ∙ stops f prev at _ _ n)
+    pub stop_at_other : at < length m → (get_or m at 0 ≡ t → ⊥) → ends (section t reads taken f prev at (drop at m)) ≡ Ok (record { last = span_of prev; end = at })
+    stop_at_other h n = ap ends (ap (section t reads taken f prev at) (drop_more m at 0 h) ∙ stops f prev at _ _ n)
 
     -- what goes on behind a field
     abbrev step : ℕ → Piece → Result (Section V) Refusal
@@ -101,8 +101,8 @@ module _ {V : Type 0} (t : ℕ) (reads : ℕ → List ℕ → Result V Refusal) 
           ∙ ap (λ l. next (field_at t at l) (step (f - 1))) (sym split)
 
       -- a refused node refuses the section
-      pub refused-here : (r : Refusal) → extent t reads taken prev.text at (drop at m) ≡ Err r → ends (section t reads taken f prev at (drop at m)) ≡ Err r
-      refused-here r e = ap ends here ∙ go (field_at t at (drop at m)) e
+      pub refused_here : (r : Refusal) → extent t reads taken prev.text at (drop at m) ≡ Err r → ends (section t reads taken f prev at (drop at m)) ≡ Err r
+      refused_here r e = ap ends here ∙ go (field_at t at (drop at m)) e
         where
           inner : (x : Piece) (n : Result (Named V) Refusal) → next n (extent_in t reads taken x) ≡ Err r
               → ends (next n (λ n. next (section t reads taken (f - 1) n.name (x.place + length x.text) x.rest) (onto n))) ≡ Err r

@@ -35,8 +35,8 @@ module _ (tag : ℕ) (text : List ℕ) (long : length text ≡ 64) where
     second : (ending e₁ at (last_bytes tag₂ n) ≡ Ok (0 + length whole)) × (after e₁ at (last_bytes tag₂ n) ≡ written (replicate 80 0) 0 whole)
     second = then_fits (replicate 80 0) 0 (field_bytes tag text) (last_bytes tag₂ n) (omega (arith, field_long, last_length tag₂ n)) e₁ at (is ∙ first.1) here
 
-    pub second-not-refused : {k : ℕ} → Err k ≡ ending e₁ at (last_bytes tag₂ n) → ⊥
-    second-not-refused d = let z : ◌≡◌ {A = ℕ} 0 1 = cc (d, second.0) in omega arith
+    pub second_not_refused : {k : ℕ} → Err k ≡ ending e₁ at (last_bytes tag₂ n) → ⊥
+    second_not_refused d = let z : ◌≡◌ {A = ℕ} 0 1 = cc (d, second.0) in omega arith
 
     pub composed : (e₂ : List ℕ) (len : ℕ) → e₂ ≡ after e₁ at (last_bytes tag₂ n) → Ok len ≡ ending e₁ at (last_bytes tag₂ n) → (take len e₂ ≡ whole) × (len ≤ 80)
     composed e₂ len is₂ a =

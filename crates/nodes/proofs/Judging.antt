@@ -25,13 +25,13 @@ module _ (p : ℕ) (m : List ℕ) (s : Span) (f : Found 0x0A p m s) where
   name_not_text h = refused_at 15 0x0A p m s f ∙ sym (named ∙ ap spanned (cond-false (is_text f.piece.text) _ _ (sym (h ∙ ap is_text f.text))))
 
   module _ (h : true ≡ is_text (part m s)) where
-    pub not-a-name : false ≡ is_name (part m s) → refused 16 s.start ≡ spanned (name_at p (drop p m))
-    not-a-name n =
+    pub not_a_name : false ≡ is_name (part m s) → refused 16 s.start ≡ spanned (name_at p (drop p m))
+    not_a_name n =
         refused_at 16 0x0A p m s f
         ∙ sym (named ∙ ap spanned (cond-true (is_text f.piece.text) _ _ (sym (h ∙ ap is_text f.text)) ∙ cond-false (is_name f.piece.text) _ _ (sym (n ∙ ap is_name f.text))))
 
-    pub a-name : true ≡ is_name (part m s) → Ok s ≡ spanned (name_at p (drop p m))
-    a-name n =
+    pub a_name : true ≡ is_name (part m s) → Ok s ≡ spanned (name_at p (drop p m))
+    a_name n =
         (λ i. Ok (record { start = f.start i; end = f.end i }))
         ∙ sym (named ∙ ap spanned (cond-true (is_text f.piece.text) _ _ (sym (h ∙ ap is_text f.text)) ∙ cond-true (is_name f.piece.text) _ _ (sym (n ∙ ap is_name f.text))))
 

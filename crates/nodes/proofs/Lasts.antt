@@ -27,17 +27,17 @@ module _ (tag most p : ℕ) (m : List ℕ) where
     tagged : last_number tag most p (drop p m) ≡ next (number_at (p + 1) (drop (p + 1) m)) (bounded most (p + 1) (drop (p + 1) m))
     tagged = ap (last_number tag most p) (drop_more m p 0 h) ∙ cond-true (eqb (get_or m p 0) tag) _ _ (eq-eqb _ _ e)
 
-    pub last-refused : (r : Refusal) → Err r ≡ number_at (p + 1) (drop (p + 1) m) → Err r ≡ last_number tag most p (drop p m)
-    last-refused r d = sym (tagged ∙ ap (λ x. next x (bounded most (p + 1) (drop (p + 1) m))) (sym d))
+    pub last_refused : (r : Refusal) → Err r ≡ number_at (p + 1) (drop (p + 1) m) → Err r ≡ last_number tag most p (drop p m)
+    last_refused r d = sym (tagged ∙ ap (λ x. next x (bounded most (p + 1) (drop (p + 1) m))) (sym d))
 
     module _ (n k : ℕ) (d : Ok (n, k) ≡ number_at (p + 1) (drop (p + 1) m)) where
       counted : last_number tag most p (drop p m) ≡ bounded most (p + 1) (drop (p + 1) m) (n, k)
       counted = tagged ∙ ap (λ x. next x (bounded most (p + 1) (drop (p + 1) m))) (sym d)
 
-      pub last-outside : (n < 1) ⊎ ((1 ≤ n) × (most < n)) → refused 13 (p + 1) ≡ last_number tag most p (drop p m)
-      last-outside o =
+      pub last_outside : (n < 1) ⊎ ((1 ≤ n) × (most < n)) → refused 13 (p + 1) ≡ last_number tag most p (drop p m)
+      last_outside o =
           sym (counted ∙ cond-false _ _ _ (⊎_elim (λ low. and_left _ _ (lt-leb 1 n low)) (λ high. and_right (leb 1 n) _ (lt-leb n most high.1)) o))
 
-      pub last-inside : 1 ≤ n → n ≤ most → last_number tag most p (drop p m) ≡ ended n (p + 1 + k) (drop (p + 1 + k) m)
-      last-inside low high =
+      pub last_inside : 1 ≤ n → n ≤ most → last_number tag most p (drop p m) ≡ ended n (p + 1 + k) (drop (p + 1 + k) m)
+      last_inside low high =
           counted ∙ cond-true _ _ _ (and_from _ _ (le-leb 1 n low) (le-leb n most high)) ∙ ap (ended n (p + 1 + k)) (drop-drop k (p + 1) m)

@@ -24,19 +24,19 @@ module _ (e : List ℕ) (s t : ℕ) (name w : List ℕ) (a b : ℕ) (is-a : a �
     one : (ending (set e s t) (s + 1) (form (a + b)) ≡ Ok (s + length (t ∷ form (a + b)))) × (after (set e s t) (s + 1) (form (a + b)) ≡ written e s (t ∷ form (a + b)))
     one = then_fits e s (t ∷ []) (form (a + b)) (omega arith) _ _ (set-written e s t (omega arith)) refl
 
-    pub number-not-refused : {k : ℕ} → Err k ≡ ending (set e s t) (s + 1) (form (a + b)) → ⊥
-    number-not-refused d = let z : ◌≡◌ {A = ℕ} 0 1 = cc (d, one.0) in omega arith
+    pub number_not_refused : {k : ℕ} → Err k ≡ ending (set e s t) (s + 1) (form (a + b)) → ⊥
+    number_not_refused d = let z : ◌≡◌ {A = ℕ} 0 1 = cc (d, one.0) in omega arith
 
     module _ (e₁ : List ℕ) (at : ℕ) (is₁ : e₁ ≡ after (set e s t) (s + 1) (form (a + b))) (a₁ : Ok at ≡ ending (set e s t) (s + 1) (form (a + b))) where
       two : (ending e₁ at x ≡ Ok (s + length ((t ∷ form (a + b)) ++ x))) × (after e₁ at x ≡ written e s ((t ∷ form (a + b)) ++ x))
       two = let here : at ≡ s + length (t ∷ form (a + b)) = cc (a₁, one.0) in then_fits e s (t ∷ form (a + b)) x (omega arith) e₁ at (is₁ ∙ one.1) here
 
-      pub name-not-refused : {k : ℕ} → Err k ≡ ending e₁ at x → ⊥
-      name-not-refused d = let z : ◌≡◌ {A = ℕ} 0 1 = cc (d, two.0) in omega arith
+      pub name_not_refused : {k : ℕ} → Err k ≡ ending e₁ at x → ⊥
+      name_not_refused d = let z : ◌≡◌ {A = ℕ} 0 1 = cc (d, two.0) in omega arith
 
-      pub node-written : (e₂ : List ℕ) (at₂ : ℕ) → e₂ ≡ after e₁ at x → Ok at₂ ≡ ending e₁ at x
+      pub node_written : (e₂ : List ℕ) (at₂ : ℕ) → e₂ ≡ after e₁ at x → Ok at₂ ≡ ending e₁ at x
           → (ending e₂ at₂ w ≡ ending e s (node_bytes t name w)) × (after e₂ at₂ w ≡ after e s (node_bytes t name w))
-      node-written e₂ at₂ is₂ a₂ =
+      node_written e₂ at₂ is₂ a₂ =
           let here : at₂ ≡ s + length ((t ∷ form (a + b)) ++ x) = cc (a₂, two.0) in
           let l = length-append (t ∷ form (a + b)) x in
           let p = then_fits e s ((t ∷ form (a + b)) ++ x) w (omega arith) e₂ at₂ (is₂ ∙ two.1) here in

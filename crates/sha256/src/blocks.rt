@@ -1,6 +1,6 @@
 ghost use Rattle.std.specs.Prelude.{◌≡◌, ◌/◌, ◌<◌, [], length, slice_index, slice_index_or};
 ghost use Rattle.sha256.specs.Lanes.{lane as lane_of};
-ghost use Rattle.sha256.specs.Sha256.{K, round as roundOf, rounds, sum, absorbed};
+ghost use Rattle.sha256.specs.Sha256.{K, round as round_of, rounds, sum, absorbed};
 
 use crate::constants::round_constant;
 use crate::lanes::{extend, load};
@@ -77,7 +77,7 @@ impl State {
     // Round t with the word of a lane.
     fn lane_round(self, w: &[u32x4; 64], lane: usize, t: usize) -> State
         requires { (lane < 4) × (t < 64) }
-        ensures { result ≡ roundOf self (slice_index K t) (slice_index (slice_index_or w.now t []) lane) }
+        ensures { result ≡ round_of self (slice_index K t) (slice_index (slice_index_or w.now t []) lane) }
     {
         self.round(round_constant(t), w[t].as_array()[lane])
     }

@@ -1,5 +1,5 @@
 ghost use Rattle.std.specs.Prelude.{◌≡◌};
-ghost use Rattle.sha256.specs.Sha256.{H₀, round as roundOf, sum, words as words_of};
+ghost use Rattle.sha256.specs.Sha256.{H₀, round as round_of, sum, words as words_of};
 
 use crate::functions::*;
 use hash::Hash;
@@ -36,7 +36,7 @@ impl State {
 
     // The working variables after one round more, with its constant and its word of the schedule.
     pub fn round(self, k: u32, w: u32) -> State
-        ensures { result ≡ roundOf self k w }
+        ensures { result ≡ round_of self k w }
     {
         let t1 = self
             .h

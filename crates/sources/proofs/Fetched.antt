@@ -56,21 +56,21 @@ module _ (d : Value) (size : ℕ) (h : Held) (buffer now : List ℕ) (f : Fetche
     let_through : verified d h ≡ Bytes f.bytes
     let_through = ap (verified d) f.held ∙ cond-true (has f.bytes d) _ _ (sym (e ∙ ap (λ bs. has bs d) f.front))
 
-    pub true-answer : Ok tt ≡ fetched (verified d h) size buffer
-    true-answer = sym (open_answer ∙ ap told let_through)
+    pub true_answer : Ok tt ≡ fetched (verified d h) size buffer
+    true_answer = sym (open_answer ∙ ap told let_through)
 
-    pub true-buffer : take size now ++ drop size now ≡ after (verified d h) size buffer
-    true-buffer = (λ i. f.front i ++ f.rest i) ∙ sym (open_buffer ∙ ap (λ x. put x size buffer) let_through)
+    pub true_buffer : take size now ++ drop size now ≡ after (verified d h) size buffer
+    true_buffer = (λ i. f.front i ++ f.rest i) ∙ sym (open_buffer ∙ ap (λ x. put x size buffer) let_through)
 
   module _ (e : false ≡ has (take size now) d) where
     held_back : verified d h ≡ Spoiled
     held_back = ap (verified d) f.held ∙ cond-false (has f.bytes d) _ _ (sym (e ∙ ap (λ bs. has bs d) f.front))
 
-    pub false-answer : Err 11 ≡ fetched (verified d h) size buffer
-    false-answer = sym (open_answer ∙ ap told held_back)
+    pub false_answer : Err 11 ≡ fetched (verified d h) size buffer
+    false_answer = sym (open_answer ∙ ap told held_back)
 
-    pub false-buffer : (zeros : List ℕ) → zeros ≡ replicate size 0 → zeros ++ drop size now ≡ after (verified d h) size buffer
-    false-buffer zeros z = (λ i. z i ++ f.rest i) ∙ sym (open_buffer ∙ ap (λ x. put x size buffer) held_back)
+    pub false_buffer : (zeros : List ℕ) → zeros ≡ replicate size 0 → zeros ++ drop size now ≡ after (verified d h) size buffer
+    false_buffer zeros z = (λ i. z i ++ f.rest i) ∙ sym (open_buffer ∙ ap (λ x. put x size buffer) held_back)
 
 pub bytes_have_the_digest_asked_for : BytesHaveTheDigestAskedFor
 bytes_have_the_digest_asked_for d Nothing bs e = let z : ◌≡◌ {A = ℕ} 0 1 = cc in absurd (omega arith)

@@ -30,9 +30,9 @@ met_there m name ns ms is h = ap (met name) is ∙ met-among name [] ns h
 module _ (m : List ℕ) (small : length m ≤ 16777216) (q : Reading) (g : Regions m small q) where
   taken_in : (p : Part) (name : List ℕ) → met_before m p q.sections name ≡ among name (earlier_of p q.nodes)
   taken_in Files name = refl
-  taken_in Directories name = met_there m name _ _ g.files g.files-ascend
+  taken_in Directories name = met_there m name _ _ g.files g.files_ascend
   taken_in Links name =
-      (λ i. met_there m name _ _ g.files g.files-ascend i || met_there m name _ _ g.directories g.directories-ascend i)
+      (λ i. met_there m name _ _ g.files g.files_ascend i || met_there m name _ _ g.directories g.directories_ascend i)
       ∙ among-both name (names q.nodes.files) (names q.nodes.directories)
 
 -- what was said of a node is what reading says once it is there

@@ -49,10 +49,10 @@ module _ {V : Type 0} (tag : ℕ) (reads : ℕ → List ℕ → Result V Refusal
     abbrev Lies : Piece → Section V → Type 0
     Lies prev s = part m s.last ≡ last_name prev.text s.nodes
 
-    pub last-lies : (k : ℕ) (prev : Piece) (p : ℕ) (front bs : List ℕ) (s : Section V) → front ++ bs ≡ m → length front ≡ p → length bs ≤ k → part m (span_of prev) ≡ prev.text → section tag reads taken k prev p bs ≡ Ok s → part m s.last ≡ last_name prev.text s.nodes
-    last-lies k prev p front [] s whole at l here e = subst (Lies prev) (same_ok (sym (no_node tag reads taken prev p k [] tt) ∙ e)) here
-    last-lies zero prev p front (b ∷ bs) s whole at l here e = absurd (omega arith)
-    last-lies (suc k) prev p front (b ∷ bs) s whole at l here e =
+    pub last_lies : (k : ℕ) (prev : Piece) (p : ℕ) (front bs : List ℕ) (s : Section V) → front ++ bs ≡ m → length front ≡ p → length bs ≤ k → part m (span_of prev) ≡ prev.text → section tag reads taken k prev p bs ≡ Ok s → part m s.last ≡ last_name prev.text s.nodes
+    last_lies k prev p front [] s whole at l here e = subst (Lies prev) (same_ok (sym (no_node tag reads taken prev p k [] tt) ∙ e)) here
+    last_lies zero prev p front (b ∷ bs) s whole at l here e = absurd (omega arith)
+    last_lies (suc k) prev p front (b ∷ bs) s whole at l here e =
         ⊎_elim
         (λ t.
         let x = t.field in
@@ -68,7 +68,7 @@ module _ {V : Type 0} (tag : ℕ) (reads : ℕ → List ℕ → Result V Refusal
         ap (λ l. two ++ l) (sym (append_assoc n.text n.rest x.rest)) ∙ sym (append_assoc two (n.text ++ n.rest) x.rest) ∙ ap (λ l. l ++ x.rest) (sym (split 0x0A x.place one x.text n one-long g)) ∙ behind in
         let sum = length-append one x.text in
         subst (Lies prev) (same_ok t.whole)
-        (last-lies k n (x.place + length x.text) (one ++ x.text) x.rest t.more behind (omega arith) (omega arith) (ap (λ l. part l (span_of n)) (sym inner) ∙ lies_at two n.text (n.rest ++ x.rest) n.place two-long) t.read))
+        (last_lies k n (x.place + length x.text) (one ++ x.text) x.rest t.more behind (omega arith) (omega arith) (ap (λ l. part l (span_of n)) (sym inner) ∙ lies_at two n.text (n.rest ++ x.rest) n.place two-long) t.read))
         (λ none. subst (Lies prev) (same_ok none.1) here)
         (step tag reads taken prev p k b bs s e)
 
@@ -92,7 +92,7 @@ module _ {V : Type 0} (tag : ℕ) (reads : ℕ → List ℕ → Result V Refusal
   pub last_name_lem : (m front : List ℕ) → front ++ bs ≡ m → p ≡ length front → part m s.last ≡ last_name [] s.nodes
   last_name_lem m front whole at =
       let none : p + 0 - p ≡ 0 = omega arith in
-      last-lies tag reads taken m (length bs) (nobody p) p front bs s whole (sym at) (omega arith) (ap (λ k. take k (drop p m)) none) e
+      last_lies tag reads taken m (length bs) (nobody p) p front bs s whole (sym at) (omega arith) (ap (λ k. take k (drop p m)) none) e
 
   -- a field behind a whole section is read as a node behind the last name
   pub one_more : (body : List ℕ) → length body < 2 ^ 63 → s.rest ≡ []

@@ -109,24 +109,24 @@ module _ (asked : Nodes) (buffer : List ℕ) where
   begins = record { part = refl; long = refl; within = omega arith; reading = _; read = refl; nodes = refl }
 
   module _ (exist : DigestsExist asked) where
-    ran-one : Ran files one start buffer empty
-    ran-one = ran file_calls asked.files exist.files start buffer empty begins
+    ran_one : Ran files one start buffer empty
+    ran_one = ran file_calls asked.files exist.files start buffer empty begins
 
     good-two : Good directories (on_to Directories one.state) one.buffer (record { files = one.taken; directories = []; links = [] })
-    good-two = onto-directories one.state one.buffer _ ran-one.good
+    good-two = onto-directories one.state one.buffer _ ran_one.good
 
-    ran-two : Ran directories two (on_to Directories one.state) one.buffer (record { files = one.taken; directories = []; links = [] })
-    ran-two = ran directory_calls asked.directories exist.directories (on_to Directories one.state) one.buffer _ good-two
+    ran_two : Ran directories two (on_to Directories one.state) one.buffer (record { files = one.taken; directories = []; links = [] })
+    ran_two = ran directory_calls asked.directories exist.directories (on_to Directories one.state) one.buffer _ good-two
 
     good-three : Good links (on_to Links two.state) two.buffer (record { files = one.taken; directories = two.taken; links = [] })
-    good-three = onto-links two.state two.buffer _ ran-two.good
+    good-three = onto-links two.state two.buffer _ ran_two.good
 
-    ran-three : Ran links three (on_to Links two.state) two.buffer (record { files = one.taken; directories = two.taken; links = [] })
-    ran-three = ran link_calls asked.links (any_links asked.links) (on_to Links two.state) two.buffer _ good-three
+    ran_three : Ran links three (on_to Links two.state) two.buffer (record { files = one.taken; directories = two.taken; links = [] })
+    ran_three = ran link_calls asked.links (any_links asked.links) (on_to Links two.state) two.buffer _ good-three
 
     ends : Ended (whole asked buffer)
     ends =
-        let g = ran-three.good in
+        let g = ran_three.good in
         let read : answered nodes_of (directory_of (take three.state.used three.buffer)) ≡ Ok (whole asked buffer).taken = ap (answered nodes_of) g.read ∙ ap Ok g.nodes in
         record {
           count = good_ends links three.state three.buffer _ g;
@@ -155,11 +155,11 @@ nodes_read_give_the_same_bytes m d buffer e fits small =
     let long = ap length canonical.1 in
     let front = length-append files-bytes (directories-bytes ++ links-bytes) in
     let back = length-append directories-bytes links-bytes in
-    let r1 = ran-one d buffer exist in
+    let r1 = ran_one d buffer exist in
     let size1 = r1.size in
     let is1 : f.taken ≡ d.files = all_taken file_calls d.files (start d buffer) buffer (empty d buffer) (begins d buffer) small c.files (omega arith) in
     let used1 : f.state.used ≡ 0 + length files-bytes = r1.used ∙ ap (λ l. 0 + length (section_bytes 0x0A file_writes l)) is1 in
-    let r2 = ran-two d buffer exist in
+    let r2 = ran_two d buffer exist in
     let size2 = r2.size in
     let is2 : g.taken ≡ d.directories = all_taken directory_calls d.directories (on_to Directories f.state) f.buffer _ (good-two d buffer exist) (omega arith) (subst (λ l. GoodSection SoundDigest (names l) [] d.directories) (sym is1) c.directories) (omega arith) in
     let used2 : g.state.used ≡ f.state.used + length directories-bytes = r2.used ∙ ap (λ l. f.state.used + length (section_bytes 0x12 directory_writes l)) is2 in
@@ -167,5 +167,5 @@ nodes_read_give_the_same_bytes m d buffer e fits small =
     let taken : (whole d buffer).taken ≡ d = λ i. record { files = is1 i; directories = is2 i; links = is3 i } in
     let end = ends d buffer exist in
     let bytes : take h.state.used h.buffer ≡ m = end.bytes ∙ ap encoding taken ∙ canonical.1 in
-    let used : h.state.used ≡ length m = sym (length-take-le h.state.used h.buffer (ran-three d buffer exist).good.within) ∙ ap length bytes in
+    let used : h.state.used ≡ length m = sym (length-take-le h.state.used h.buffer (ran_three d buffer exist).good.within) ∙ ap length bytes in
     (taken, end.count ∙ ap Ok used, ap (λ n. take n h.buffer) (sym used) ∙ bytes)

@@ -133,8 +133,8 @@ module _ {V : Type 0} {k : Kind V} {Asked Sound : V → Type 0} (law : Calls k A
         }
 
     -- and then come the others
-    one-and-more : (ns : List (Node V)) → ((s : State) (buffer : List ℕ) (d : Nodes) → Good k s buffer d → Ran k (adds k.tag k.writes ns s buffer) s buffer d) → Ran k (adds k.tag k.writes (n ∷ ns) s buffer) s buffer d
-    one-and-more ns others = go (added s buffer (bytes n)) refl
+    one_and_more : (ns : List (Node V)) → ((s : State) (buffer : List ℕ) (d : Nodes) → Good k s buffer d → Ran k (adds k.tag k.writes ns s buffer) s buffer d) → Ran k (adds k.tag k.writes (n ∷ ns) s buffer) s buffer d
+    one_and_more ns others = go (added s buffer (bytes n)) refl
       where
         Done : Result ℕ Refusal → Type 0
         Done a =
@@ -159,7 +159,7 @@ module _ {V : Type 0} {k : Kind V} {Asked Sound : V → Type 0} (law : Calls k A
   -- any calls, some of them refused
   pub ran : (ns : List (Node V)) → AllSound Asked ns → (s : State) (buffer : List ℕ) (d : Nodes) → Good k s buffer d → Ran k (adds k.tag k.writes ns s buffer) s buffer d
   ran [] sound s buffer d g = record { good = subst (Good k s buffer) (sym (k.none d)) g; used = omega arith; size = refl }
-  ran (n ∷ ns) sound s buffer d g = one-and-more n sound.0 s buffer d g ns (ran ns sound.1)
+  ran (n ∷ ns) sound s buffer d g = one_and_more n sound.0 s buffer d g ns (ran ns sound.1)
 
   -- nodes that keep the rules and have room are all taken
   pub all_taken : (ns : List (Node V)) (s : State) (buffer : List ℕ) (d : Nodes) → Good k s buffer d → length buffer ≤ 16777216

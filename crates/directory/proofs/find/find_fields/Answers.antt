@@ -6,7 +6,7 @@ use Rattle.wire.specs.Refusals.{refusal_of}
 use Rattle.wire.proofs.Finding.{Found, found}
 use Rattle.nodes.proofs.Judging.{none}
 use Rattle.directory.specs.Items.{found_of}
-use Rattle.directory.proofs.Located.{name_refused, rest-refused, node-found}
+use Rattle.directory.proofs.Located.{name_refused, rest_refused, node_found}
 use Rattle.directory.proofs.find.find_fields.Given as given
 use Rattle.directory.proofs.find.find_fields.Goals as goal
 use Rattle.directory.proofs.find.find_fields.Goals.{In_ok-start, In_ok-name}
@@ -47,7 +47,7 @@ returns-in_err-rest g c =
     let n = c.in_ok-name.ensures in
     record {
       value = λ item. ap (found_of k.rest_in item m) p.1 ∙ ap (λ e. Err (refusal_of e)) p.2
-          ∙ rest-refused k.code k.finds item c.args.place m _ f c.in_ok-start.ensures.within.1 _ (found 0x0A _ _ _ n.value) n.within.1 i _ c.in_err-rest.ensures.value;
+          ∙ rest_refused k.code k.finds item c.args.place m _ f c.in_ok-start.ensures.within.1 _ (found 0x0A _ _ _ n.value) n.within.1 i _ c.in_err-rest.ensures.value;
       places = none _ _ _ p.1;
     }
 
@@ -63,6 +63,6 @@ returns g c =
     let same : k.rest_in m rest ≡ k.rest_in (take (e - 0) m) rest = ap (λ l. k.rest_in l rest) (sym (take-append-drop (e - 0) m)) ∙ c.in_ok-rest.ensures.within (drop (e - 0) m) in
     let cut : e - 0 ≡ e = omega arith in
     record {
-      value = λ item. node-found k.code k.finds item c.args.place m _ f c.in_ok-start.ensures.within.1 _ (found 0x0A _ _ _ n.value) n.within.1 i _ (ap Ok same ∙ c.in_ok-rest.ensures.value);
+      value = λ item. node_found k.code k.finds item c.args.place m _ f c.in_ok-start.ensures.within.1 _ (found 0x0A _ _ _ n.value) n.within.1 i _ (ap Ok same ∙ c.in_ok-rest.ensures.value);
       places = subst (λ j. k.Places c.in_ok-name.name.end (drop c.in_ok-name.name.end (take j m)) rest) cut c.in_ok-rest.ensures.places;
     }

@@ -1,6 +1,6 @@
 use Rattle.std.proofs.Common.{arith, length-take}
 use Rattle.wire.proofs.Finding.{found}
-use Rattle.directory.proofs.Places.{no_node_past, no_node, nameless, node-found}
+use Rattle.directory.proofs.Places.{no_node_past, no_node, nameless, node_found}
 use Rattle.directory.proofs.region.node_front.Goals as goal
 
 pub returns-then-at-message : goal.returns-then-at-message
@@ -23,7 +23,7 @@ returns c =
     let name = c.in-Ok-read_field.ensures.within in
     let size = length-take c.in-Ok.field-0.end c.args.message.now in
     record {
-      value = node-found c.args.at c.args.message.now c.in-Ok.field-0 (found _ _ _ _ c.in-Ok.ensures.value) c.in-Ok-read_field.name
+      value = node_found c.args.at c.args.message.now c.in-Ok.field-0 (found _ _ _ _ c.in-Ok.ensures.value) c.in-Ok-read_field.name
           (found _ _ _ _ c.in-Ok-read_field.ensures.value) (omega arith);
       within = (omega arith, omega arith, omega arith, omega arith);
     }

@@ -6,7 +6,7 @@ use Rattle.wire.specs.Refusals.{refusal_of}
 use Rattle.wire.proofs.Finding.{Found, found}
 use Rattle.nodes.proofs.Judging.{none}
 use Rattle.directory.specs.Steps.{extent_of}
-use Rattle.directory.proofs.Reaching.{name_refused, place-refused, rest-refused, node-read}
+use Rattle.directory.proofs.Reaching.{name_refused, place_refused, rest_refused, node-read}
 use Rattle.directory.proofs.section.read_node.Given as given
 use Rattle.directory.proofs.section.read_node.Goals as goal
 use Rattle.directory.proofs.section.read_node.Goals.{In_ok-start, In_ok-name}
@@ -49,7 +49,7 @@ returns-in_err-earlier g c =
     let n = c.in_ok-name.ensures in
     record {
       value = ap extent_of p.1 ∙ ap (λ e. Err (refusal_of e)) p.2
-          ∙ place-refused k.code k.reads _ _ c.args.bytes.now c.args.at c.in_ok-start.field-0 f w.1 c.in_ok-name.name n.value n.within.1 i (omega arith) _ (c.in_err-earlier.ensures.value _);
+          ∙ place_refused k.code k.reads _ _ c.args.bytes.now c.args.at c.in_ok-start.field-0 f w.1 c.in_ok-name.name n.value n.within.1 i (omega arith) _ (c.in_err-earlier.ensures.value _);
       passed = none _ _ _ p.1;
       within = none _ _ _ p.1;
     }
@@ -64,7 +64,7 @@ returns-in_err-read_rest g c =
     let n = c.in_ok-name.ensures in
     record {
       value = ap extent_of p.1 ∙ ap (λ e. Err (refusal_of e)) p.2
-          ∙ rest-refused k.code k.reads _ _ c.args.bytes.now c.args.at c.in_ok-start.field-0 f w.1 c.in_ok-name.name n.value n.within.1 i (omega arith) (c.in_ok-earlier.ensures.value _) _ c.in_err-read_rest.ensures.value;
+          ∙ rest_refused k.code k.reads _ _ c.args.bytes.now c.args.at c.in_ok-start.field-0 f w.1 c.in_ok-name.name n.value n.within.1 i (omega arith) (c.in_ok-earlier.ensures.value _) _ c.in_err-read_rest.ensures.value;
       passed = none _ _ _ p.1;
       within = none _ _ _ p.1;
     }

@@ -7,7 +7,7 @@ use Rattle.directory.specs.Regions.{past}
 use Rattle.directory.specs.Sections.{among, section}
 use Rattle.directory.specs.Steps.{met_in, earlier_names, ends}
 use Rattle.directory.proofs.Ascents.{Passed, passed_none, passed_on}
-use Rattle.directory.proofs.Sectioning.{met-both, extent_alike, stop-at-end, stop-at-other, refused-here, one_more}
+use Rattle.directory.proofs.Sectioning.{met-both, extent_alike, stop_at_end, stop_at_other, refused_here, one_more}
 use Rattle.directory.proofs.section.read_section.Given as given
 use Rattle.directory.proofs.section.read_section.Goals as goal
 use Rattle.directory.proofs.section.read_section.Goals.{Then-bytes-at}
@@ -42,7 +42,7 @@ returns-in_err-node g c =
     let prev = part m c.loop-at.last in
     let said = c.in_err-node.ensures.value ∙ extent_alike prev _ _ (alike g (goal.at.returns-in_err-node g c).Then-bytes-at) k.code k.reads c.loop-at.at (drop c.loop-at.at m) in
     ap reported p.1 ∙ ap (λ f. Err (refusal_of f)) p.2
-    ∙ sym (i.8 ∙ refused-here k.code k.reads _ m c.loop-at.at i.0 _ c.loop-at-test.true (c.if-bytes-at.true ∙ c.tag-tag.ensures) i.2 _ (sym said))
+    ∙ sym (i.8 ∙ refused_here k.code k.reads _ m c.loop-at.at i.0 _ c.loop-at-test.true (c.if-bytes-at.true ∙ c.tag-tag.ensures) i.2 _ (sym said))
 
 pub loop-at-preserved : goal.loop-at-preserved
 loop-at-preserved g c =
@@ -62,11 +62,11 @@ returns-else-bytes-at g c =
     let k = g.K.NodeKind in
     let i = c.loop-at.invariant in
     ap (λ e. Ok (record { last = record { start = c.loop-at.last.start; end = e }; end = c.loop-at.at })) (sym i.5)
-    ∙ sym (i.8 ∙ stop-at-other k.code k.reads _ c.args.bytes.now c.loop-at.at i.0 _ c.loop-at-test.true (λ e. c.if-bytes-at.false (e ∙ sym c.tag-tag.ensures)))
+    ∙ sym (i.8 ∙ stop_at_other k.code k.reads _ c.args.bytes.now c.loop-at.at i.0 _ c.loop-at-test.true (λ e. c.if-bytes-at.false (e ∙ sym c.tag-tag.ensures)))
 
 pub returns-after-loop-at : goal.returns-after-loop-at
 returns-after-loop-at g c =
     let k = g.K.NodeKind in
     let i = c.loop-at.invariant in
     ap (λ e. Ok (record { last = record { start = c.loop-at.last.start; end = e }; end = c.loop-at.at })) (sym i.5)
-    ∙ sym (i.8 ∙ stop-at-end k.code k.reads _ c.args.bytes.now c.loop-at.at i.0 _ c.loop-at-test.false)
+    ∙ sym (i.8 ∙ stop_at_end k.code k.reads _ c.args.bytes.now c.loop-at.at i.0 _ c.loop-at-test.false)

@@ -1,7 +1,7 @@
 use Rattle.std.proofs.Common.{◌≡◌, ◌++◌, length, ap, ◌∙◌, rules}
 use Rattle.wire.specs.Fields.{field_bytes}
 use Rattle.nodes.specs.Endings.{last_bytes}
-use Rattle.nodes.proofs.Composing.{first_not_refused, second-not-refused, composed}
+use Rattle.nodes.proofs.Composing.{first_not_refused, second_not_refused, composed}
 use Rattle.nodes.proofs.digest_bytes.digest_bytes.Goals as goal
 
 pub returns-in_err-end : goal.returns-in_err-end
@@ -12,7 +12,7 @@ returns-in_err-end c =
 pub returns-in_err-len : goal.returns-in_err-len
 returns-in_err-len c =
     let long : length c.to_text.result ≡ 64 = search rules in
-    absurd (second-not-refused 10 c.to_text.result long _ _ c.in_ok-end.ensures.buffer c.in_ok-end.ensures.answer 16 c.args.digest.now.size c.in_err-len.ensures.answer)
+    absurd (second_not_refused 10 c.to_text.result long _ _ c.in_ok-end.ensures.buffer c.in_ok-end.ensures.answer 16 c.args.digest.now.size c.in_err-len.ensures.answer)
 
 pub returns : goal.returns
 returns c =

@@ -1,7 +1,7 @@
 use Rattle.std.proofs.Common.{replicate, ap, ◌∙◌}
 use Rattle.digest.specs.Digests.{value_of}
 use Rattle.sources.specs.Verified.{verified}
-use Rattle.sources.proofs.Fetched.{Fetched, given, front_length, true-answer, true-buffer, false-answer, false-buffer}
+use Rattle.sources.proofs.Fetched.{Fetched, given, front_length, true_answer, true_buffer, false_answer, false_buffer}
 use Rattle.sources.proofs.verifying.VerifyingSource.fetch.Given as over
 use Rattle.sources.proofs.verifying.VerifyingSource.fetch.Goals as goal
 use Rattle.sources.proofs.verifying.VerifyingSource.fetch.Goals.{In_ok-fetch}
@@ -17,8 +17,8 @@ returns-then-has_digest g c =
     let d = value_of c.args.digest.now in
     let f = below g (goal.at.returns-then-has_digest g c).In_ok-fetch in
     record {
-      answer = true-answer d _ _ _ _ f c.if-has_digest.ensures;
-      buffer = true-buffer d _ _ _ _ f c.if-has_digest.ensures;
+      answer = true_answer d _ _ _ _ f c.if-has_digest.ensures;
+      buffer = true_buffer d _ _ _ _ f c.if-has_digest.ensures;
       kept = ap (λ m d. verified d (m d)) c.in_ok-fetch.ensures.kept;
     }
 
@@ -27,7 +27,7 @@ returns g c =
     let d = value_of c.args.digest.now in
     let f = below g (goal.at.returns g c).In_ok-fetch in
     record {
-      answer = false-answer d _ _ _ _ f c.if-has_digest.ensures;
-      buffer = false-buffer d _ _ _ _ f c.if-has_digest.ensures c.fill.new.self (c.fill.ensures.after (λ y e. e) ∙ ap (λ n. replicate n 0) (front_length _ _ _ _ f));
+      answer = false_answer d _ _ _ _ f c.if-has_digest.ensures;
+      buffer = false_buffer d _ _ _ _ f c.if-has_digest.ensures c.fill.new.self (c.fill.ensures.after (λ y e. e) ∙ ap (λ n. replicate n 0) (front_length _ _ _ _ f));
       kept = ap (λ m d. verified d (m d)) c.in_ok-fetch.ensures.kept;
     }
