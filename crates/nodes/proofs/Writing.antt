@@ -1,9 +1,9 @@
 -- A node written part by part. Assumes nothing.
-use Rattle.std.proofs.Common.{◌≡◌, ℕ, ◌+◌, ◌≤◌, List, [], ◌∷◌, ◌++◌, length, set, Ok, Err, sym, refl, ap, ◌∙◌, append_assoc, arith, length-append}
+use Rattle.std.proofs.Common.{◌≡◌, ℕ, ◌+◌, ◌<◌, ◌≤◌, List, [], ◌∷◌, ◌++◌, length, set, Ok, Err, sym, refl, ap, ◌∙◌, append_assoc, arith, length-append}
 use Rattle.wire.specs.Fields.{field_bytes}
 use Rattle.wire.specs.Numbers.{form}
 use Rattle.wire.specs.Writing.{written, ending, after}
-use Rattle.wire.proofs.Placing.{fits, set-written, then_fits}
+use Rattle.wire.proofs.Placing.{fits, no_room, set-written, then_fits}
 use Rattle.nodes.specs.Nodes.{node_bytes}
 
 -- a bytes for the name's field and b for the bytes w behind it
@@ -19,6 +19,9 @@ module _ (e : List ℕ) (s t : ℕ) (name w : List ℕ) (a b : ℕ) (is-a : a �
       let l = length-append (form (length (x ++ w))) (x ++ w) in
       let f : length (form (a + b)) ≡ length (form (length (x ++ w))) = ap (λ k. length (form k)) long in
       omega (arith, long)
+
+  pub no_room_for_node : length e < s + (1 + length (form (a + b)) + (a + b)) → (ending e s (node_bytes t name w) ≡ Err 8) × (after e s (node_bytes t name w) ≡ e)
+  no_room_for_node h = no_room e s (node_bytes t name w) (omega (arith, node_length))
 
   module _ (room : s + (1 + length (form (a + b)) + (a + b)) ≤ length e) where
     one : (ending (set e s t) (s + 1) (form (a + b)) ≡ Ok (s + length (t ∷ form (a + b)))) × (after (set e s t) (s + 1) (form (a + b)) ≡ written e s (t ∷ form (a + b)))

@@ -4,7 +4,7 @@ use Rattle.wire.specs.Refusals.{refusal_of}
 use Rattle.wire.proofs.Finding.{found}
 use Rattle.nodes.specs.Kinds.{link_value}
 use Rattle.nodes.specs.Values.{valued}
-use Rattle.nodes.proofs.Judging.{none, target_refused, a_target}
+use Rattle.nodes.proofs.Judging.{none, target_refused, target_taken}
 use Rattle.nodes.proofs.Lasts.{ended-refused, ended_well}
 use Rattle.nodes.proofs.link.kind.LinkNodeNodeKind.read_rest.Goals as goal
 
@@ -20,7 +20,7 @@ returns-in_err-judge_target c =
 pub returns-in_err-read_end : goal.returns-in_err-read_end
 returns-in_err-read_end c =
     let p = err_from_is_err_and c.from_residual-in_err-read_end.result c.from_residual-in_err-read_end.ensures.1 in
-    let is = a_target c.args.start c.args.message.now _ (found 0x12 _ _ _ c.in_ok-target.ensures.value) c.in_ok-judge_target.ensures in
+    let is = target_taken c.args.start c.args.message.now _ (found 0x12 _ _ _ c.in_ok-target.ensures.value) c.in_ok-judge_target.ensures in
     record {
       value = ap (valued link_value c.args.message.now) p.1 ∙ ap (λ f. Err (refusal_of f)) p.2 ∙ ended-refused _ _ _ _ c.in_err-read_end.ensures ∙ sym is;
       places = none _ _ _ p.1;
@@ -28,7 +28,7 @@ returns-in_err-read_end c =
 
 pub returns : goal.returns
 returns c =
-    let is = a_target c.args.start c.args.message.now _ (found 0x12 _ _ _ c.in_ok-target.ensures.value) c.in_ok-judge_target.ensures in
+    let is = target_taken c.args.start c.args.message.now _ (found 0x12 _ _ _ c.in_ok-target.ensures.value) c.in_ok-judge_target.ensures in
     record {
       value = ended_well _ _ _ c.in_ok-read_end.ensures ∙ sym is;
       places = sym c.in_ok-target.ensures.value;
