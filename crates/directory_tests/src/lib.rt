@@ -4,7 +4,7 @@
 #[cfg(test)]
 mod accepted;
 #[cfg(test)]
-mod nodes;
+mod of_nodes;
 #[cfg(test)]
 mod order;
 #[cfg(test)]

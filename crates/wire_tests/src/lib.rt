@@ -2,7 +2,7 @@
 #![tactic(auto)]
 
 #[cfg(test)]
-mod texts {
+mod of_texts {
     use texts::{is_name, is_target, is_text, precedes};
 
     #[test]
@@ -64,7 +64,7 @@ mod texts {
 }
 
 #[cfg(test)]
-mod wire {
+mod of_wire {
     use wire::{read_field, read_number, write_field, write_number};
 
     #[test]
@@ -134,7 +134,7 @@ mod wire {
 }
 
 #[cfg(test)]
-mod nodes {
+mod of_nodes {
     use digest::Digest;
     use nodes::{DirectoryNode, FileNode, LinkNode, NodeKind, read_name, write_node};
     use std::alloc::Global;

@@ -4,7 +4,7 @@
 #[cfg(test)]
 mod lengths;
 #[cfg(test)]
-mod nodes;
+mod of_nodes;
 #[cfg(test)]
 mod rows;
 #[cfg(test)]
