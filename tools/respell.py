@@ -4,9 +4,11 @@
 usage: tools/respell.py        at the top of the repository, once, after /opt/rattle/port/port.py
 
 It goes by whole words: in specs/ and proofs/ anywhere, in src/ too (code has no such words, clauses do), and in README.md and docs/ within backticks.
-A dash stays where it joins the names of two definitions. Names of code, strings, inputs and outputs are not in the table.
+A dash stays where it joins the names of two definitions. Two lemmas take another name, since a definition gets theirs: `is-text` and
+`last_name`. Names of code, strings, inputs and outputs are not in the table.
 """
 import glob
+import os
 import re
 
 NAMES = {
@@ -28,6 +30,7 @@ NAMES = {
     "Texts-are-UTF-8": "TextsAreUtf8",
     "True-bytes-are-kept": "TrueBytesAreKept",
     "Whole-blocks": "WholeBlocks",
+    "a-digest": "a_digest",
     "a-name": "a_name",
     "a-target": "a_target",
     "absorbed-more": "absorbed_more",
@@ -44,6 +47,7 @@ NAMES = {
     "at-directory": "at_directory",
     "at-file": "at_file",
     "at-link": "at_link",
+    "at-t": "at_t",
     "back-small": "back_small",
     "before-else": "before_else",
     "before-irrefl": "before_irrefl",
@@ -69,6 +73,7 @@ NAMES = {
     "digit-is-hex": "digit_is_hex",
     "digit-of-value": "digit_of_value",
     "directories-ascend": "directories_ascend",
+    "directories-bytes": "directories_bytes",
     "directories-grow": "directories_grow",
     "directories-read": "directories_read",
     "directories-stand": "directories_stand",
@@ -94,6 +99,7 @@ NAMES = {
     "empty-part": "empty_part",
     "ended-all": "ended_all",
     "ended-well": "ended_well",
+    "ends-onto": "ends_onto",
     "every-stops": "every_stops",
     "everyHex": "every_hex",
     "extent-alike": "extent_alike",
@@ -115,6 +121,7 @@ NAMES = {
     "fileValue": "file_value",
     "fileWrites": "file_writes",
     "files-ascend": "files_ascend",
+    "files-bytes": "files_bytes",
     "files-grow": "files_grow",
     "files-read": "files_read",
     "files-stand": "files_stand",
@@ -145,6 +152,8 @@ NAMES = {
     "goesOn": "goes_on",
     "good-ascends": "good_ascends",
     "good-ends": "good_ends",
+    "good-three": "good_three",
+    "good-two": "good_two",
     "group-below": "group_below",
     "group-byte": "group_byte",
     "grows-by": "grows_by",
@@ -159,8 +168,15 @@ NAMES = {
     "hexValue": "hex_value",
     "in-range": "in_range",
     "in-two-parts": "in_two_parts",
+    "is-a": "is_a",
+    "is-j": "is_j",
+    "is-k": "is_k",
+    "is-n": "is_n",
+    "is-r": "is_r",
+    "is-tail": "is_tail",
     "is-text": "is_text_lem",
     "is-utf8": "is_utf8",
+    "is-v": "is_v",
     "isDots": "is_dots",
     "isHashText": "is_hash_text",
     "isHex": "is_hex",
@@ -195,6 +211,7 @@ NAMES = {
     "lies-numbered": "lies_numbered",
     "lies-tagged": "lies_tagged",
     "link-accepts": "link_accepts",
+    "link-back": "link_back",
     "link-calls": "link_calls",
     "link-field": "link_field",
     "link-judges": "link_judges",
@@ -207,6 +224,7 @@ NAMES = {
     "linkReads": "link_reads",
     "linkValue": "link_value",
     "linkWrites": "link_writes",
+    "links-bytes": "links_bytes",
     "links-grow": "links_grow",
     "links-read": "links_read",
     "links-stand": "links_stand",
@@ -214,6 +232,7 @@ NAMES = {
     "linksIn": "links_in",
     "linksState": "links_state",
     "listed-sized": "listed_sized",
+    "long-enough": "long_enough",
     "markedIn": "marked_in",
     "met-there": "met_there",
     "metBefore": "met_before",
@@ -240,11 +259,13 @@ NAMES = {
     "no-node-past": "no_node_past",
     "no-room-for-node": "no_room_for_node",
     "no-tag": "no_tag",
+    "node-back": "node_back",
     "node-found": "node_found",
     "node-in-front": "node_in_front",
     "node-is": "node_is",
     "node-length": "node_length",
     "node-parts": "node_parts",
+    "node-read": "node_read",
     "node-written": "node_written",
     "nodeAt": "node_at",
     "nodeBytes": "node_bytes",
@@ -257,6 +278,7 @@ NAMES = {
     "none-there": "none_there",
     "not-a-name": "not_a_name",
     "not-a-target": "not_a_target",
+    "not-has": "not_has",
     "not-ok": "not_ok",
     "not-read": "not_read",
     "not-refused": "not_refused",
@@ -267,9 +289,11 @@ NAMES = {
     "number-not-refused": "number_not_refused",
     "of-both": "of_both",
     "onTo": "on_to",
+    "one-added": "one_added",
     "one-and-more": "one_and_more",
     "one-encoding-one-directory": "one_encoding_one_directory",
     "one-here": "one_here",
+    "one-long": "one_long",
     "one-there": "one_there",
     "only-canonical-is-accepted": "only_canonical_is_accepted",
     "onto-more": "onto_more",
@@ -293,6 +317,7 @@ NAMES = {
     "ran-three": "ran_three",
     "ran-two": "ran_two",
     "reachedOf": "reached_of",
+    "read-long": "read_long",
     "reading-more": "reading_more",
     "reading-nine": "reading_nine",
     "ready-first": "ready_first",
@@ -313,6 +338,7 @@ NAMES = {
     "same-decides": "same_decides",
     "same-digest": "same_digest",
     "same-equal": "same_equal",
+    "same-long": "same_long",
     "same-part": "same_part",
     "schedule-more": "schedule_more",
     "second-not-refused": "second_not_refused",
@@ -332,6 +358,7 @@ NAMES = {
     "stop-at-end": "stop_at_end",
     "stop-at-other": "stop_at_other",
     "stops-empty": "stops_empty",
+    "tail-long": "tail_long",
     "taken-within": "taken_within",
     "taken-written": "taken_written",
     "takenIf": "taken_if",
@@ -356,6 +383,7 @@ NAMES = {
     "true-answer": "true_answer",
     "true-buffer": "true_buffer",
     "true-bytes-are-kept": "true_bytes_are_kept",
+    "two-long": "two_long",
     "value-below": "value_below",
     "value-of-digit": "value_of_digit",
     "value-refl": "value_refl",
@@ -398,6 +426,8 @@ def rewrite(path, change):
 
 
 def main():
+    if os.path.exists("docs/PORT.md"):
+        raise SystemExit("this repository is respelled already")
     for path in glob.glob("crates/*/specs/**/*.antt", recursive=True) + glob.glob("crates/*/proofs/**/*.antt", recursive=True) + glob.glob("crates/*/src/**/*.rt", recursive=True):
         rewrite(path, respell)
     for path in ["README.md"] + glob.glob("docs/*.md"):

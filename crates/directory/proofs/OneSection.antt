@@ -168,8 +168,8 @@ module _ {V : Type 0} (tag : ℕ) (reads : ℕ → List ℕ → Result V Refusal
     piece p n = record { text = n.name; place = inside p n.name; rest = writes n.rest }
 
     -- the message of a node that keeps the rules is read as this node
-    pub node-back : (prev : List ℕ) (p : ℕ) (n : Node V) → GoodName earlier prev n.name → Sound n.rest → node_at tag reads (λ t. among t earlier) prev p (field_bytes 0x0A n.name ++ writes n.rest) ≡ Ok (record { name = piece p n; value = n.rest })
-    node-back prev p n good sound =
+    pub node_back : (prev : List ℕ) (p : ℕ) (n : Node V) → GoodName earlier prev n.name → Sound n.rest → node_at tag reads (λ t. among t earlier) prev p (field_bytes 0x0A n.name ++ writes n.rest) ≡ Ok (record { name = piece p n; value = n.rest })
+    node_back prev p n good sound =
         let t = n.name in
         let y = piece p n in
         let sizes = and_parts (leb 1 (length t) && leb (length t) 255) _ good.1 in
@@ -205,7 +205,7 @@ module _ {V : Type 0} (tag : ℕ) (reads : ℕ → List ℕ → Result V Refusal
           more.0,
           ap (section tag reads taken (suc k) prev p) split
               ∙ node_in_front tag reads taken prev p k body (back ++ rest) (omega arith)
-              ∙ ap (λ r. next r (λ n. next (section tag reads taken k n.name (q + length body) (back ++ rest)) (onto n))) (node-back prev.text q n good.0 good.1)
+              ∙ ap (λ r. next r (λ n. next (section tag reads taken k n.name (q + length body) (back ++ rest)) (onto n))) (node_back prev.text q n good.0 good.1)
               ∙ ap (λ r. next r (onto (record { name = piece q n; value = n.rest }))) more.1
               ∙ ap (λ e. Ok (record { nodes = n ∷ ns; last = more.0; place = e; rest = rest })) end,
         )

@@ -85,8 +85,8 @@ module _ {V : Type 0} (t : ℕ) (reads : ℕ → List ℕ → Result V Refusal) 
       pub rest_refused : (r : Refusal) → Err r ≡ reads n.end (drop n.end cut) → Err r ≡ extent t reads taken prev at (drop at m)
       rest_refused r e = sym (at_rest ∙ ap (λ x. next (next x (λ v. Ok (record { name = named; value = v }))) ending) (sym e))
 
-      pub node-read : (v : V) → Ok v ≡ reads n.end (drop n.end cut) → Ok (record { name = n; end = s.end }) ≡ extent t reads taken prev at (drop at m)
-      node-read v e =
+      pub node_read : (v : V) → Ok v ≡ reads n.end (drop n.end cut) → Ok (record { name = n; end = s.end }) ≡ extent t reads taken prev at (drop at m)
+      node_read v e =
           sym
           (at_rest
           ∙ ap (λ x. next (next x (λ v. Ok (record { name = named; value = v }))) ending) (sym e)

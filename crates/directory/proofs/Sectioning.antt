@@ -113,9 +113,9 @@ module _ {V : Type 0} (t : ℕ) (reads : ℕ → List ℕ → Result V Refusal) 
           go (Err d) e = cc
           go (Ok x) e = inner x (node_at t reads taken prev.text x.place x.text) e
 
-      ends-onto : (n : Named V) (s : Result (Section V) Refusal) → ends (next s (onto n)) ≡ ends s
-      ends-onto n (Ok s) = refl
-      ends-onto n (Err d) = refl
+      ends_onto : (n : Named V) (s : Result (Section V) Refusal) → ends (next s (onto n)) ≡ ends s
+      ends_onto n (Ok s) = refl
+      ends_onto n (Err d) = refl
 
       -- a node that was read, and the section behind it
       pub record More (x : Extent) : Type 0 where
@@ -155,7 +155,7 @@ module _ {V : Type 0} (t : ℕ) (reads : ℕ → List ℕ → Result V Refusal) 
             fewer = omega arith;
             onward =
                 ap ends (here ∙ ap (λ r. next r (step (f - 1))) field.1 ∙ ap (λ r. next r (λ n. next (section t reads taken (f - 1) n.name (b.place + length b.text) b.rest) (onto n))) node.1)
-                ∙ ends-onto n (section t reads taken (f - 1) n.name (b.place + length b.text) b.rest)
+                ∙ ends_onto n (section t reads taken (f - 1) n.name (b.place + length b.text) b.rest)
                 ∙ (λ i. ends (section t reads taken (f - 1) (sym same i) (end i) (lb.rest i)))
                 ∙ (λ i. ends (section t reads taken (f - 1) (record { text = shown i; place = start i; rest = y.rest }) x.end (drop (end i) m)));
           }

@@ -82,8 +82,8 @@ through_all d c =
     let long = length-append files (directories ++ links) in
     let behind = length-append directories links in
     let alone = ap length (append-nil links) in
-    let link-back : (p : ℕ) (x : List ℕ) → SoundLink x → link_finds p (link_writes x) ≡ Ok x = λ p x s. link_kept p (link_writes x) x (link_returns p x s) in
-    let last = section_through 0x1A link_finds link_writes SoundLink link (λ p bs. refl) link-back m (names d.files ++ names d.directories) [] d.links [] [] (omega arith) c.links (through_none m) in
+    let link_back : (p : ℕ) (x : List ℕ) → SoundLink x → link_finds p (link_writes x) ≡ Ok x = λ p x s. link_kept p (link_writes x) x (link_returns p x s) in
+    let last = section_through 0x1A link_finds link_writes SoundLink link (λ p bs. refl) link_back m (names d.files ++ names d.directories) [] d.links [] [] (omega arith) c.links (through_none m) in
     let ends : Through m links (each link d.links) = subst (Through m links) (append-nil (each link d.links)) (subst (λ bs. Through m bs (each link d.links ++ [])) (append-nil links) last) in
     let middle = section_through 0x12 directory_reads directory_writes SoundDigest directory (λ p bs. refl) directory_returns m (names d.files) [] d.directories links (each link d.links) (omega arith) c.directories ends in
     section_through 0x0A file_reads file_writes SoundFile file (λ p bs. refl) file_returns m [] [] d.files (directories ++ links) (each directory d.directories ++ each link d.links) (omega arith) c.files middle 0 (length m) refl (omega arith)

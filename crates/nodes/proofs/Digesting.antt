@@ -28,5 +28,5 @@ module _ (p : ℕ) (m : List ℕ) (s : Span) (f : Found 0x0A p m s) where
     pub no_size : (r : Refusal) → Err r ≡ last_number 0x10 (2 ^ 63 - 1) s.end (drop s.end m) → Err r ≡ digest_at p (drop p m)
     no_size r d = sym (sized ∙ ap (λ x. next x (λ n. Ok (record { hash = ws; size = n }))) (sym d))
 
-    pub a-digest : (n : ℕ) → Ok n ≡ last_number 0x10 (2 ^ 63 - 1) s.end (drop s.end m) → Ok (record { hash = ws; size = n }) ≡ digest_at p (drop p m)
-    a-digest n d = sym (sized ∙ ap (λ x. next x (λ n. Ok (record { hash = ws; size = n }))) (sym d))
+    pub a_digest : (n : ℕ) → Ok n ≡ last_number 0x10 (2 ^ 63 - 1) s.end (drop s.end m) → Ok (record { hash = ws; size = n }) ≡ digest_at p (drop p m)
+    a_digest n d = sym (sized ∙ ap (λ x. next x (λ n. Ok (record { hash = ws; size = n }))) (sym d))

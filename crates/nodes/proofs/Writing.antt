@@ -7,7 +7,7 @@ use Rattle.wire.proofs.Placing.{fits, no_room, set-written, then_fits}
 use Rattle.nodes.specs.Nodes.{node_bytes}
 
 -- a bytes for the name's field and b for the bytes w behind it
-module _ (e : List ℕ) (s t : ℕ) (name w : List ℕ) (a b : ℕ) (is-a : a ≡ length (field_bytes 0x0A name)) (is_b : b ≡ length w) where
+module _ (e : List ℕ) (s t : ℕ) (name w : List ℕ) (a b : ℕ) (is_a : a ≡ length (field_bytes 0x0A name)) (is_b : b ≡ length w) where
   abbrev x : List ℕ
   x = field_bytes 0x0A name
 

@@ -53,7 +53,7 @@ in_two_parts m x y ex ey =
 -- blocks in the middle of a text, absorbed as a text of their own
 pub absorbed-part : (s₀ : State) (m : List ℕ) (s r : State) (n p k at : ℕ) → 64 * (n + p) ≤ length m → at ≡ 64 * n → s ≡ absorbed s₀ m n → r ≡ absorbed s (take (64 * p) (drop at m)) p → k ≡ n + p
     → r ≡ absorbed s₀ m k
-absorbed-part s₀ m s r n p k at within is_at so_far is-r is-k =
+absorbed-part s₀ m s r n p k at within is_at so_far is_r is_k =
     let x = take (64 * n) m in
     let y = drop (64 * n) m in
     let left : 64 * p ≤ length y = simp length-drop (omega arith) in
@@ -61,8 +61,8 @@ absorbed-part s₀ m s r n p k at within is_at so_far is-r is-k =
     let whole : x ++ y ≡ m = take-append-drop (64 * n) m in
     let front : absorbed s₀ x n ≡ absorbed s₀ m n =
     sym (absorbed-front s₀ x y n (omega (arith, length-take-le (64 * n) m (omega arith)))) ∙ ap (λ l. absorbed s₀ l n) whole in
-    is-r ∙ ap (λ a. absorbed s (take (64 * p) (drop a m)) p) is_at
+    is_r ∙ ap (λ a. absorbed s (take (64 * p) (drop a m)) p) is_at
     ∙ sym (absorbed-front s (take (64 * p) y) (drop (64 * p) y) p long) ∙ ap (λ l. absorbed s l p) (take-append-drop (64 * p) y)
     ∙ ap (λ v. absorbed v y p) (so_far ∙ sym front)
     ∙ sym (absorbed-append s₀ x y n p (length-take-le (64 * n) m (omega arith)))
-    ∙ ap (λ l. absorbed s₀ l (n + p)) whole ∙ ap (absorbed s₀ m) (sym is-k)
+    ∙ ap (λ l. absorbed s₀ l (n + p)) whole ∙ ap (absorbed s₀ m) (sym is_k)

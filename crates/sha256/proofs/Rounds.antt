@@ -57,8 +57,8 @@ words_more m w t x h so_far e =
 -- one round more behind those so far
 pub state_more : (s₀ : State) (m : List ℕ) (s : State) (t k x : ℕ) (r : State) → s ≡ rounds s₀ (schedule m t) t → k ≡ get_or K t 0 → r ≡ round s k x → x ≡ entry m t (schedule m t)
     → r ≡ rounds s₀ (schedule m (t + 1)) (t + 1)
-state_more s₀ m s t k x r so_far is-k is-r e =
-    is-r ∙ ap (λ v. round v k x) so_far ∙ ap (λ v. round (rounds s₀ (schedule m t) t) v x) is-k
+state_more s₀ m s t k x r so_far is_k is_r e =
+    is_r ∙ ap (λ v. round v k x) so_far ∙ ap (λ v. round (rounds s₀ (schedule m t) t) v x) is_k
     ∙ ap (round (rounds s₀ (schedule m t) t) (get_or K t 0)) e
     ∙ sym (rounds_more s₀ (schedule m t) (entry m t (schedule m t)) t (length-schedule m t))
     ∙ ap (λ l. rounds s₀ l (t + 1)) (sym (schedule_more m t))
@@ -73,12 +73,12 @@ pub sofar_none : (s₀ : State) (m w : List ℕ) → length w ≡ 64 → Sofar s
 unfolding schedule rounds
 sofar_none s₀ m w h = record { long = h; words = refl; state = refl }
 
-module _ (s₀ : State) (m w : List ℕ) (s : State) (t : ℕ) (so_far : Sofar s₀ m w s t) (below : t < 64) (k x : ℕ) (r : State) (is-k : k ≡ get_or K t 0) (is-r : r ≡ round s k x) where
+module _ (s₀ : State) (m w : List ℕ) (s : State) (t : ℕ) (so_far : Sofar s₀ m w s t) (below : t < 64) (k x : ℕ) (r : State) (is_k : k ≡ get_or K t 0) (is_r : r ≡ round s k x) where
   more : x ≡ entry m t (schedule m t) → Sofar s₀ m (set w t x) r (t + 1)
   more e = record {
     long = length-set w t x ∙ so_far.long;
     words = words_more m w t x (omega (arith, so_far.long)) so_far.words e;
-    state = state_more s₀ m s t k x r so_far.state is-k is-r e;
+    state = state_more s₀ m s t k x r so_far.state is_k is_r e;
   }
 
   pub more_first : t < 16 → x ≡ word m t → Sofar s₀ m (set w t x) r (t + 1)

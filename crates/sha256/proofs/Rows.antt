@@ -75,9 +75,9 @@ word_of_block : (m : List ℕ) (l t n : ℕ) → t < 16 → n ≡ 16 * l + t →
 word_of_block m l t n h e =
     let byte : (j : ℕ) → j < 4 → get_or (block m l) (4 * t + j) 0 ≡ get_or m (4 * n + j) 0 =
     λ j k. byte_of_block m l (4 * t + j) (omega arith) ∙ ap (λ i. get_or m i 0) (omega arith) in
-    let at-t : 4 * t ≡ 4 * t + 0 = omega arith in
+    let at_t : 4 * t ≡ 4 * t + 0 = omega arith in
     let at_n : 4 * n + 0 ≡ 4 * n = omega arith in
-    let a : get_or (block m l) (4 * t) 0 ≡ get_or m (4 * n) 0 = ap (λ i. get_or (block m l) i 0) at-t ∙ byte 0 (lit< tt) ∙ ap (λ i. get_or m i 0) at_n in
+    let a : get_or (block m l) (4 * t) 0 ≡ get_or m (4 * n) 0 = ap (λ i. get_or (block m l) i 0) at_t ∙ byte 0 (lit< tt) ∙ ap (λ i. get_or m i 0) at_n in
     let b = byte 1 (lit< tt) in
     let c = byte 2 (lit< tt) in
     let d = byte 3 (lit< tt) in
@@ -115,12 +115,12 @@ ready_none s₀ m = record {
   state = refl;
 }
 
-module _ (s₀ : State) (m : List ℕ) (w v : List (List ℕ)) (s : State) (t : ℕ) (ready : Ready s₀ m w s t) (below : t < 64) (k x n : ℕ) (r : State) (is-k : k ≡ get_or K t 0) (is-r : r ≡ round s k x) (is-n : n ≡ t + 1) where
+module _ (s₀ : State) (m : List ℕ) (w v : List (List ℕ)) (s : State) (t : ℕ) (ready : Ready s₀ m w s t) (below : t < 64) (k x n : ℕ) (r : State) (is_k : k ≡ get_or K t 0) (is_r : r ≡ round s k x) (is_n : n ≡ t + 1) where
   more : (row : List ℕ) → v ≡ set w t row → length row ≡ 4 → ((l : ℕ) → l < 4 → get_or row l 0 ≡ entry (block m l) t (schedule (block m l) t)) → x ≡ get_or row 0 0 → Ready s₀ m v r n
-  more row is-v wide entries first =
+  more row is_v wide entries first =
       let P : ℕ → Type 0 = λ j. Ready s₀ m (set w t row) r j in
       let Q : List (List ℕ) → Type 0 = λ u. Ready s₀ m u r n in
-      subst Q (sym is-v) (subst P (sym is-n) record {
+      subst Q (sym is_v) (subst P (sym is_n) record {
         long = length-set w t row ∙ ready.long;
         rows = λ i h. ⊎_elim
             (λ e. ap (λ j. length (get_or (set w t row) j [])) e ∙ ap length (get_or-set_same w t row [] (omega (arith, ready.long))) ∙ wide)
@@ -129,17 +129,17 @@ module _ (s₀ : State) (m : List ℕ) (w v : List (List ℕ)) (s : State) (t : 
         words = λ l h.
             ap (take (t + 1)) (lane-set w l t row)
             ∙ words_more (block m l) (lane w l) t (get_or row l 0) (omega (arith, length-map w (λ row. get_or row l 0), ready.long)) (ready.words l h) (entries l h);
-        state = state_more s₀ (block m 0) s t k x r ready.state is-k is-r (first ∙ entries 0 (lit< tt));
+        state = state_more s₀ (block m 0) s t k x r ready.state is_k is_r (first ∙ entries 0 (lit< tt));
       })
 
   pub ready_first : t < 16 → v ≡ set w t (word_row m t) → x ≡ word m t → Ready s₀ m v r n
-  ready_first h is-v e =
-      more (word_row m t) is-v refl (λ l l4. word_in_lane m t h l l4 ∙ sym (entry_first (block m l) t (schedule (block m l) t) h)) e
+  ready_first h is_v e =
+      more (word_row m t) is_v refl (λ l l4. word_in_lane m t h l l4 ∙ sym (entry_first (block m l) t (schedule (block m l) t) h)) e
 
   pub ready_next : 16 ≤ t → v ≡ set w t (next_row w t) → x ≡ get_or (next_row w t) 0 0 → Ready s₀ m v r n
-  ready_next h is-v e =
+  ready_next h is_v e =
       let row = next_in_lanes w t ready.long ready.rows h below in
-      more (next_row w t) is-v row.0 (λ l l4. row.1 l l4 ∙ next_of_front (block m l) (lane w l) t h (ready.words l l4)) e
+      more (next_row w t) is_v row.0 (λ l l4. row.1 l l4 ∙ next_of_front (block m l) (lane w l) t h (ready.words l l4)) e
 
 pub all_rows : (s₀ : State) (m : List ℕ) (w : List (List ℕ)) (s : State) (t : ℕ) → t ≡ 64 → Ready s₀ m w s t → Ready s₀ m w s 64
 all_rows s₀ m w s t e ready = subst (Ready s₀ m w s) e ready
@@ -159,7 +159,7 @@ module _ (s₀ : State) (m : List ℕ) (w : List (List ℕ)) (s : State) (ready 
 -- one round more over a lane
 pub lane_more : (s₀ : State) (w : List (List ℕ)) (s r : State) (l t n : ℕ) → t < length w → s ≡ rounds s₀ (lane w l) t → r ≡ round s (get_or K t 0) (get_or (get_or w t []) l 0) → n ≡ t + 1
     → r ≡ rounds s₀ (lane w l) n
-lane_more s₀ w s r l t n h so_far is-r is-n =
-    is-r ∙ ap (λ v. round v (get_or K t 0) (get_or (get_or w t []) l 0)) so_far
+lane_more s₀ w s r l t n h so_far is_r is_n =
+    is_r ∙ ap (λ v. round v (get_or K t 0) (get_or (get_or w t []) l 0)) so_far
     ∙ ap (round (rounds s₀ (lane w l) t) (get_or K t 0)) (sym (lane_at w l t h))
-    ∙ sym (rounds-next s₀ (lane w l) t) ∙ ap (rounds s₀ (lane w l)) (sym is-n)
+    ∙ sym (rounds-next s₀ (lane w l) t) ∙ ap (rounds s₀ (lane w l)) (sym is_n)

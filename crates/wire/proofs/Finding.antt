@@ -25,17 +25,17 @@ module _ (p : ℕ) (m : List ℕ) where
   lies_cut : (n k : ℕ) (x : Piece) → p < length m → front (drop (p + 1) m) ≡ Some (n, k) → cut (p + 1) n k (drop k (drop (p + 1) m)) ≡ Ok x → Lies p m x
   lies_cut n k x h d e =
       let tail = drop k (drop (p + 1) m) in
-      let is-tail : tail ≡ drop (p + 1 + k) m = drop-drop k (p + 1) m in
+      let is_tail : tail ≡ drop (p + 1 + k) m = drop-drop k (p + 1) m in
       let taken = taken_within (drop (p + 1) m) n k d in
       let long = length-drop (p + 1) m in
-      let tail-long : length tail ≡ length m - (p + 1 + k) = ap length is-tail ∙ length-drop (p + 1 + k) m in
+      let tail_long : length tail ≡ length m - (p + 1 + k) = ap length is_tail ∙ length-drop (p + 1 + k) m in
       ⊎_elim
       (λ b.
       let enough = leb-true n (length tail) b in
       let size : length (take n tail) ≡ n = length-take-le n tail enough in
       let made : Lies p m (record { text = take n tail; place = p + 1 + k; rest = drop n tail }) = record {
-        text = ap (take n) is-tail ∙ ap (λ j. take j (drop (p + 1 + k) m)) (sym size);
-        rest = ap (drop n) is-tail ∙ drop-drop n (p + 1 + k) m ∙ ap (λ j. drop (p + 1 + k + j) m) (sym size);
+        text = ap (take n) is_tail ∙ ap (λ j. take j (drop (p + 1 + k) m)) (sym size);
+        rest = ap (drop n) is_tail ∙ drop-drop n (p + 1 + k) m ∙ ap (λ j. drop (p + 1 + k + j) m) (sym size);
         behind = omega arith;
         within = omega arith;
       } in

@@ -46,8 +46,8 @@ module _ (tag p : ℕ) (m : List ℕ) where
           let l = length-drop (p + 1 + k) m in
           sym (sized ∙ ap spanned (cond-false (leb n (length (drop (p + 1 + k) m))) _ _ (lt-leb _ _ (omega arith))))
 
-      pub long-enough : n ≤ length m - (p + 1 + k) → Ok (record { start = p + 1 + k; end = p + 1 + k + n }) ≡ spanned (field_at tag p (drop p m))
-      long-enough s =
+      pub long_enough : n ≤ length m - (p + 1 + k) → Ok (record { start = p + 1 + k; end = p + 1 + k + n }) ≡ spanned (field_at tag p (drop p m))
+      long_enough s =
           let tail = drop (p + 1 + k) m in
           let l = length-drop (p + 1 + k) m in
           let w : n ≤ length tail = omega arith in

@@ -187,29 +187,29 @@ links_stand m r e =
     let all = sectioned m r c.1 in
     let fs = all.files in
     let ds = all.directories in
-    let files-bytes = section_bytes 0x0A file_writes fs.nodes in
-    let directories-bytes = section_bytes 0x12 directory_writes ds.nodes in
+    let files_bytes = section_bytes 0x0A file_writes fs.nodes in
+    let directories_bytes = section_bytes 0x12 directory_writes ds.nodes in
     let b = was 0x0A file_reads file_writes SoundFile [] file_accepts file_returns 0 m fs all.files_read in
     let d = was 0x12 directory_reads directory_writes SoundDigest (names fs.nodes) directory_accepts directory_returns fs.place fs.rest ds all.directories_read in
     let at = b.place in
     let then = d.place in
-    let sum = length-append files-bytes directories-bytes in
+    let sum = length-append files_bytes directories_bytes in
     record {
       base = record { files = fs.nodes; directories = ds.nodes; links = [] };
       cuts = λ q. record { directories = fs.place; links = ds.place };
-      front = files-bytes ++ directories-bytes;
+      front = files_bytes ++ directories_bytes;
       bytes = ds.rest;
       place = ds.place;
       section = all.links;
       fresh = refl;
-      split = append_assoc files-bytes directories-bytes ds.rest ∙ ap (λ l. files-bytes ++ l) (sym d.bytes) ∙ sym b.bytes;
+      split = append_assoc files_bytes directories_bytes ds.rest ∙ ap (λ l. files_bytes ++ l) (sym d.bytes) ∙ sym b.bytes;
       here = omega arith;
       read = all.links_read;
       whole = ap (λ (q : Reading). q.rest) all.whole ∙ c.2;
       is = all.whole;
       goes = λ body small.
           let x = field_bytes 0x1A body in
-          let whole = ap length b.bytes ∙ length-append files-bytes fs.rest in
+          let whole = ap length b.bytes ∙ length-append files_bytes fs.rest in
           let long = length-append m x in
           let rest = length-append fs.rest x in
           let k = kept 0x0A file_reads file_writes SoundFile [] file_accepts file_returns 0 m fs all.files_read x (λ z. omega arith) small in

@@ -60,15 +60,15 @@ module _ {V : Type 0} (tag : ℕ) (reads : ℕ → List ℕ → Result V Refusal
         let less = t.shorter in
         let g : Fielded 0x0A x.place x.text n = fielded 0x0A x.place x.text n (node_parts prev.text x.place x.text t.node t.noded).0 in
         let one = longer tag p front (b ∷ bs) x at t.fielded in
-        let one-long = long tag p front (b ∷ bs) x at t.fielded in
-        let two = longer 0x0A x.place one x.text n one-long g in
-        let two-long = long 0x0A x.place one x.text n one-long g in
+        let one_long = long tag p front (b ∷ bs) x at t.fielded in
+        let two = longer 0x0A x.place one x.text n one_long g in
+        let two_long = long 0x0A x.place one x.text n one_long g in
         let behind : (one ++ x.text) ++ x.rest ≡ m = append_assoc one x.text x.rest ∙ sym (split tag p front (b ∷ bs) x at t.fielded) ∙ whole in
         let inner : two ++ (n.text ++ (n.rest ++ x.rest)) ≡ m =
-        ap (λ l. two ++ l) (sym (append_assoc n.text n.rest x.rest)) ∙ sym (append_assoc two (n.text ++ n.rest) x.rest) ∙ ap (λ l. l ++ x.rest) (sym (split 0x0A x.place one x.text n one-long g)) ∙ behind in
+        ap (λ l. two ++ l) (sym (append_assoc n.text n.rest x.rest)) ∙ sym (append_assoc two (n.text ++ n.rest) x.rest) ∙ ap (λ l. l ++ x.rest) (sym (split 0x0A x.place one x.text n one_long g)) ∙ behind in
         let sum = length-append one x.text in
         subst (Lies prev) (same_ok t.whole)
-        (last_lies k n (x.place + length x.text) (one ++ x.text) x.rest t.more behind (omega arith) (omega arith) (ap (λ l. part l (span_of n)) (sym inner) ∙ lies_at two n.text (n.rest ++ x.rest) n.place two-long) t.read))
+        (last_lies k n (x.place + length x.text) (one ++ x.text) x.rest t.more behind (omega arith) (omega arith) (ap (λ l. part l (span_of n)) (sym inner) ∙ lies_at two n.text (n.rest ++ x.rest) n.place two_long) t.read))
         (λ none. subst (Lies prev) (same_ok none.1) here)
         (step tag reads taken prev p k b bs s e)
 

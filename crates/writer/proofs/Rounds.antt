@@ -39,7 +39,7 @@ link_same p x v any small e =
     let wrote = (link_accepts p (link_writes x) v e).0 in
     let long = length-append (form (length x)) x in
     let sized = ap length wrote in
-    let read-long = length-append (form (length v)) v in
+    let read_long = length-append (form (length v)) v in
     let fields = sym (field_back 0x12 p x [] (omega arith)) ∙ ap (λ l. field_at 0x12 p (l ++ [])) (sym wrote) ∙ field_back 0x12 p v [] (omega arith) in
     ap (λ y. y.text) (same_ok fields)
 
@@ -112,17 +112,17 @@ module _ (asked : Nodes) (buffer : List ℕ) where
     ran_one : Ran files one start buffer empty
     ran_one = ran file_calls asked.files exist.files start buffer empty begins
 
-    good-two : Good directories (on_to Directories one.state) one.buffer (record { files = one.taken; directories = []; links = [] })
-    good-two = onto-directories one.state one.buffer _ ran_one.good
+    good_two : Good directories (on_to Directories one.state) one.buffer (record { files = one.taken; directories = []; links = [] })
+    good_two = onto-directories one.state one.buffer _ ran_one.good
 
     ran_two : Ran directories two (on_to Directories one.state) one.buffer (record { files = one.taken; directories = []; links = [] })
-    ran_two = ran directory_calls asked.directories exist.directories (on_to Directories one.state) one.buffer _ good-two
+    ran_two = ran directory_calls asked.directories exist.directories (on_to Directories one.state) one.buffer _ good_two
 
-    good-three : Good links (on_to Links two.state) two.buffer (record { files = one.taken; directories = two.taken; links = [] })
-    good-three = onto-links two.state two.buffer _ ran_two.good
+    good_three : Good links (on_to Links two.state) two.buffer (record { files = one.taken; directories = two.taken; links = [] })
+    good_three = onto-links two.state two.buffer _ ran_two.good
 
     ran_three : Ran links three (on_to Links two.state) two.buffer (record { files = one.taken; directories = two.taken; links = [] })
-    ran_three = ran link_calls asked.links (any_links asked.links) (on_to Links two.state) two.buffer _ good-three
+    ran_three = ran link_calls asked.links (any_links asked.links) (on_to Links two.state) two.buffer _ good_three
 
     ends : Ended (whole asked buffer)
     ends =
@@ -149,21 +149,21 @@ nodes_read_give_the_same_bytes m d buffer e fits small =
     let f = one d buffer in
     let g = two d buffer in
     let h = three d buffer in
-    let files-bytes = section_bytes 0x0A file_writes d.files in
-    let directories-bytes = section_bytes 0x12 directory_writes d.directories in
-    let links-bytes = section_bytes 0x1A link_writes d.links in
+    let files_bytes = section_bytes 0x0A file_writes d.files in
+    let directories_bytes = section_bytes 0x12 directory_writes d.directories in
+    let links_bytes = section_bytes 0x1A link_writes d.links in
     let long = ap length canonical.1 in
-    let front = length-append files-bytes (directories-bytes ++ links-bytes) in
-    let back = length-append directories-bytes links-bytes in
+    let front = length-append files_bytes (directories_bytes ++ links_bytes) in
+    let back = length-append directories_bytes links_bytes in
     let r1 = ran_one d buffer exist in
     let size1 = r1.size in
     let is1 : f.taken ≡ d.files = all_taken file_calls d.files (start d buffer) buffer (empty d buffer) (begins d buffer) small c.files (omega arith) in
-    let used1 : f.state.used ≡ 0 + length files-bytes = r1.used ∙ ap (λ l. 0 + length (section_bytes 0x0A file_writes l)) is1 in
+    let used1 : f.state.used ≡ 0 + length files_bytes = r1.used ∙ ap (λ l. 0 + length (section_bytes 0x0A file_writes l)) is1 in
     let r2 = ran_two d buffer exist in
     let size2 = r2.size in
-    let is2 : g.taken ≡ d.directories = all_taken directory_calls d.directories (on_to Directories f.state) f.buffer _ (good-two d buffer exist) (omega arith) (subst (λ l. GoodSection SoundDigest (names l) [] d.directories) (sym is1) c.directories) (omega arith) in
-    let used2 : g.state.used ≡ f.state.used + length directories-bytes = r2.used ∙ ap (λ l. f.state.used + length (section_bytes 0x12 directory_writes l)) is2 in
-    let is3 : h.taken ≡ d.links = all_taken link_calls d.links (on_to Links g.state) g.buffer _ (good-three d buffer exist) (omega arith) (subst (λ l. GoodSection SoundLink (names l ++ names g.taken) [] d.links) (sym is1) (subst (λ l. GoodSection SoundLink (names d.files ++ names l) [] d.links) (sym is2) c.links)) (omega arith) in
+    let is2 : g.taken ≡ d.directories = all_taken directory_calls d.directories (on_to Directories f.state) f.buffer _ (good_two d buffer exist) (omega arith) (subst (λ l. GoodSection SoundDigest (names l) [] d.directories) (sym is1) c.directories) (omega arith) in
+    let used2 : g.state.used ≡ f.state.used + length directories_bytes = r2.used ∙ ap (λ l. f.state.used + length (section_bytes 0x12 directory_writes l)) is2 in
+    let is3 : h.taken ≡ d.links = all_taken link_calls d.links (on_to Links g.state) g.buffer _ (good_three d buffer exist) (omega arith) (subst (λ l. GoodSection SoundLink (names l ++ names g.taken) [] d.links) (sym is1) (subst (λ l. GoodSection SoundLink (names d.files ++ names l) [] d.links) (sym is2) c.links)) (omega arith) in
     let taken : (whole d buffer).taken ≡ d = λ i. record { files = is1 i; directories = is2 i; links = is3 i } in
     let end = ends d buffer exist in
     let bytes : take h.state.used h.buffer ≡ m = end.bytes ∙ ap encoding taken ∙ canonical.1 in

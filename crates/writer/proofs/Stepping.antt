@@ -12,7 +12,7 @@ use Rattle.nodes.specs.Nodes.{node_bytes}
 use Rattle.directory.specs.Canonical.{GoodSection, section_bytes}
 use Rattle.directory.specs.Directories.{Nodes, Reading, part_of}
 use Rattle.directory.specs.Sections.{Node, Named, among, node_at}
-use Rattle.directory.proofs.OneSection.{node-back}
+use Rattle.directory.proofs.OneSection.{node_back}
 use Rattle.directory.proofs.Onward.{last_name}
 use Rattle.writer.specs.Growing.{earlier_of, inside}
 use Rattle.writer.specs.Runs.{Run, taken_if, adds, AllSound}
@@ -108,8 +108,8 @@ module _ {V : Type 0} {k : Kind V} {Asked Sound : V → Type 0} (law : Calls k A
 
   module _ (n : Node V) (asked : Asked n.rest) (s : State) (buffer : List ℕ) (d : Nodes) (g : Good k s buffer d) where
     -- a call that was not refused adds its node
-    one-added : (used : ℕ) → added s buffer (bytes n) ≡ Ok used → Good k (state_after s (Ok used)) (written buffer s.used (bytes n)) (k.put (n ∷ []) d)
-    one-added used e =
+    one_added : (used : ℕ) → added s buffer (bytes n) ≡ Ok used → Good k (state_after s (Ok used)) (written buffer s.used (bytes n)) (k.put (n ∷ []) d)
+    one_added used e =
         let t = took s buffer (bytes n) used e in
         let m = take s.used buffer in
         let body = field_bytes 0x0A n.name ++ k.writes n.rest in
@@ -122,10 +122,10 @@ module _ {V : Type 0} {k : Kind V} {Asked Sound : V → Type 0} (law : Calls k A
         let long = length-append m (bytes n) in
         let grown = went_on _ _ t.reading (sym (grows_by k m g.reading st body small) ∙ read) in
         let node : node_of grown.0 ≡ n = node_is (earlier_of k.part g.reading.nodes) (last_name [] (k.of g.reading.nodes)) (inside (length m) body) n grown.0 asked (omega arith) grown.1 in
-        let same-long = g.long in
+        let same_long = g.long in
         record {
           part = g.part;
-          long = size ∙ same-long;
+          long = size ∙ same_long;
           within = omega arith;
           reading = t.reading;
           read = ap (part_of k.part) (ap (λ u. take u (written buffer s.used (bytes n))) (sym count) ∙ taken_written buffer s.used (bytes n) room) ∙ read;
@@ -146,7 +146,7 @@ module _ {V : Type 0} {k : Kind V} {Asked Sound : V → Type 0} (law : Calls k A
         go (Ok used) is =
             let t = took s buffer (bytes n) used is in
             let count = t.count in
-            let more = others (state_after s (Ok used)) (written buffer s.used (bytes n)) (k.put (n ∷ []) d) (one-added used is) in
+            let more = others (state_after s (Ok used)) (written buffer s.used (bytes n)) (k.put (n ∷ []) d) (one_added used is) in
             let run = adds k.tag k.writes ns (state_after s (Ok used)) (written buffer s.used (bytes n)) in
             let end = more.used in
             let sum = length-append (bytes n) (section_bytes k.tag k.writes run.taken) in
@@ -179,13 +179,13 @@ module _ {V : Type 0} {k : Kind V} {Asked Sound : V → Type 0} (law : Calls k A
       let r = g.reading in
       let name = subst (λ q. GoodSection Sound (earlier_of k.part q) (last_name [] (k.of q)) (n ∷ ns)) (sym g.nodes) good in
       let read = grows_ok k m r (law.stands m r g.read) body _ within
-      (node-back k.tag k.reads k.writes Sound (earlier_of k.part r.nodes) law.returns (last_name [] (k.of r.nodes)) (inside (length m) body) n name.0 name.1) in
+      (node_back k.tag k.reads k.writes Sound (earlier_of k.part r.nodes) law.returns (last_name [] (k.of r.nodes)) (inside (length m) body) n name.0 name.1) in
       let is : added s buffer node ≡ Ok used =
       ap (λ r. next r (λ used. cond (has_room buffer used node) (next (part_of s.part (so_far s buffer ++ node)) (λ _. Ok (used + length node))) (refused 8 0))) (good_ends k s buffer d g)
       ∙ cond-true (has_room buffer s.used node) _ _ (le-leb _ _ fits)
       ∙ ap (λ p. next (part_of p (m ++ node)) (λ _. Ok used)) g.part
       ∙ ap (λ r. next r (λ _. Ok used)) read.1 in
-      let one = one-added n (law.asks n.rest good.1) s buffer d g used is in
+      let one = one_added n (law.asks n.rest good.1) s buffer d g used is in
       let size = written_long buffer s.used node fits in
       let d' = k.put (n ∷ []) d in
       let then : GoodSection Sound (earlier_of k.part d') (last_name [] (k.of d')) ns =

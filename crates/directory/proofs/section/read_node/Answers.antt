@@ -6,7 +6,7 @@ use Rattle.wire.specs.Refusals.{refusal_of}
 use Rattle.wire.proofs.Finding.{Found, found}
 use Rattle.nodes.proofs.Judging.{none}
 use Rattle.directory.specs.Steps.{extent_of}
-use Rattle.directory.proofs.Reaching.{name_refused, place_refused, rest_refused, node-read}
+use Rattle.directory.proofs.Reaching.{name_refused, place_refused, rest_refused, node_read}
 use Rattle.directory.proofs.section.read_node.Given as given
 use Rattle.directory.proofs.section.read_node.Goals as goal
 use Rattle.directory.proofs.section.read_node.Goals.{In_ok-start, In_ok-name}
@@ -77,7 +77,7 @@ returns g c =
     let i = inner g (goal.at.returns g c).In_ok-name in
     let n = c.in_ok-name.ensures in
     record {
-      value = node-read k.code k.reads _ _ c.args.bytes.now c.args.at c.in_ok-start.field-0 f w.1 c.in_ok-name.name n.value n.within.1 i (omega arith) (c.in_ok-earlier.ensures.value _) _ c.in_ok-read_rest.ensures.value;
+      value = node_read k.code k.reads _ _ c.args.bytes.now c.args.at c.in_ok-start.field-0 f w.1 c.in_ok-name.name n.value n.within.1 i (omega arith) (c.in_ok-earlier.ensures.value _) _ c.in_ok-read_rest.ensures.value;
       passed = c.in_ok-earlier.ensures.passed;
       within = (omega arith, n.within.1, i, w.2);
     }

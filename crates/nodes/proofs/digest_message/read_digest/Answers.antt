@@ -3,7 +3,7 @@ use Rattle.std.proofs.lemmas.Result.{err_from_is_err_and}
 use Rattle.wire.specs.Refusals.{refusal_of}
 use Rattle.wire.proofs.Finding.{found}
 use Rattle.nodes.specs.Digests.{reported_digest}
-use Rattle.nodes.proofs.Digesting.{no_hash, no_size, a-digest}
+use Rattle.nodes.proofs.Digesting.{no_hash, no_size, a_digest}
 use Rattle.nodes.proofs.digest_message.read_digest.Goals as goal
 
 pub returns-in_default : goal.returns-in_default
@@ -16,4 +16,4 @@ returns-in_err-size c =
     ∙ no_size c.args.start c.args.message.now _ (found 0x0A _ _ _ c.in_ok-first.ensures.value) _ c.in-Ok.ensures.answer _ c.in_err-size.ensures.value
 
 pub returns : goal.returns
-returns c = a-digest c.args.start c.args.message.now _ (found 0x0A _ _ _ c.in_ok-first.ensures.value) _ c.in-Ok.ensures.answer _ c.in_ok-size.ensures.value
+returns c = a_digest c.args.start c.args.message.now _ (found 0x0A _ _ _ c.in_ok-first.ensures.value) _ c.in-Ok.ensures.answer _ c.in_ok-size.ensures.value

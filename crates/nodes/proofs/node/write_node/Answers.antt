@@ -9,8 +9,8 @@ use Rattle.nodes.proofs.node.write_node.Goals as goal
 
 -- what a node takes where it has room
 room_for : (e : List ℕ) (s t : ℕ) (name w : List ℕ) (a b : ℕ) → a ≡ length (field_bytes 0x0A name) → b ≡ length w → true ≡ has_room e s (node_bytes t name w) → s + (1 + length (form (a + b)) + (a + b)) ≤ length e
-room_for e s t name w a b is-a is_b h =
-    let long = node_length e s t name w a b is-a is_b in
+room_for e s t name w a b is_a is_b h =
+    let long = node_length e s t name w a b is_a is_b in
     let r = leb-true (s + length (node_bytes t name w)) (length e) (sym h) in
     omega arith
 

@@ -2,7 +2,7 @@ use Rattle.std.proofs.Common.{◌+◌, IfOk, Err, sym, ap, ◌∙◌, subst, ari
 use Rattle.std.proofs.lemmas.Result.{err_from_is_err_and}
 use Rattle.wire.specs.Fields.{Inside}
 use Rattle.wire.specs.Refusals.{refusal_of, reported}
-use Rattle.wire.proofs.Pieces.{number_found, number-refused, none_left, another_tag, no_length, too_short, long-enough}
+use Rattle.wire.proofs.Pieces.{number_found, number-refused, none_left, another_tag, no_length, too_short, long_enough}
 use Rattle.wire.proofs.field.read_field.Goals as goal
 use Rattle.wire.proofs.field.read_field.Goals.{then-start-message-via-then-start-message, then-start-message-via-else-start-message+then-message-start}
 
@@ -38,7 +38,7 @@ returns-then-message-first c =
 pub returns : goal.returns
 returns c =
     record {
-      value = long-enough c.args.tag c.args.start c.args.message.now c.if-start-message.false c.if-message-start.false _ _
+      value = long_enough c.args.tag c.args.start c.args.message.now c.if-start-message.false c.if-message-start.false _ _
           (number_found (c.args.start + 1) _ _ _ c.in_ok-length.ensures.value) c.if-message-first.false;
       within = (omega arith, omega arith, omega (arith, c.in_ok-length.ensures.within));
     }

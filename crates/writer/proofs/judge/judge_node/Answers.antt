@@ -17,7 +17,7 @@ record Lengths (m name w : List ℕ) (code a b : ℕ) : Type 0 where
   inner : a ≡ 1 + length (form (length name)) + length name
 
 lengths : (m name w : List ℕ) (code a b : ℕ) → a ≡ length (field_bytes 0x0A name) → b ≡ length w → length (m ++ node_bytes code name w) ≤ 16777216 → Lengths m name w code a b
-lengths m name w code a b is-a is_b h =
+lengths m name w code a b is_a is_b h =
     let x = field_bytes 0x0A name ++ w in
     let body = length-append (field_bytes 0x0A name) w in
     let all = length-append m (node_bytes code name w) in
@@ -26,13 +26,13 @@ lengths m name w code a b is-a is_b h =
     record { body = omega arith; whole = omega arith; inner = omega arith }
 
 -- the place of the name, as the code counts it
-module _ (m name w : List ℕ) (code a b j k : ℕ) (l : Lengths m name w code a b) (is-j : j ≡ length (form (a + b))) (is-k : k ≡ length (form (length name))) where
+module _ (m name w : List ℕ) (code a b j k : ℕ) (l : Lengths m name w code a b) (is_j : j ≡ length (form (a + b))) (is_k : k ≡ length (form (length name))) where
   placed_at : length m + 1 + j + 1 + k ≡ inside (length m) (field_bytes 0x0A name ++ w) + 1 + length (form (length name))
-  placed_at = let first : j ≡ length (form (length (field_bytes 0x0A name ++ w))) = is-j ∙ ap (λ n. length (form n)) l.body in omega arith
+  placed_at = let first : j ≡ length (form (length (field_bytes 0x0A name ++ w))) = is_j ∙ ap (λ n. length (form n)) l.body in omega arith
 
   fits : length m + 1 + j + 1 + k + length name ≤ 16777216
   fits =
-      let first : j ≡ length (form (length (field_bytes 0x0A name ++ w))) = is-j ∙ ap (λ n. length (form n)) l.body in
+      let first : j ≡ length (form (length (field_bytes 0x0A name ++ w))) = is_j ∙ ap (λ n. length (form n)) l.body in
       let whole = l.whole in
       let inner = l.inner in
       omega arith
