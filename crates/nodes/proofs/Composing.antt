@@ -1,47 +1,63 @@
--- A Digest message put together in a buffer of 80 bytes. Assumes nothing.
-use Rattle.std.proofs.Common.{◌≡◌, ℕ, ◌+◌, ◌≤◌, List, ◌++◌, length, take, drop, replicate, Ok, Err, refl, ap, ◌∙◌, arith, length-append}
-use Rattle.std.proofs.lemmas.List.{take_at}
+-- A field whose message is a field 0A and a last part, and more behind it, written part by part. Assumes nothing.
+use Rattle.std.proofs.Common.{◌≡◌, ℕ, ◌+◌, ◌<◌, ◌≤◌, List, [], ◌∷◌, ◌++◌, length, set, Ok, Err, sym, refl, ap, ◌∙◌, append_assoc, arith, length-append}
 use Rattle.wire.specs.Fields.{field_bytes}
 use Rattle.wire.specs.Numbers.{form}
-use Rattle.wire.specs.Writing.{written, ending, after}
-use Rattle.wire.proofs.Placing.{fits, then_fits}
-use Rattle.nodes.specs.Endings.{last_bytes}
-use Rattle.nodes.specs.Laws.{last_length}
+use Rattle.wire.specs.Writing.{ending, after}
+use Rattle.nodes.proofs.Parts.{Stands, begun, not_refused, onward, ends}
 
-one_byte : length (form 64) ≡ 1
-unfolding form
-one_byte = refl
+-- how long such a field is, the message having `long` bytes
+pub field_long : (tag : ℕ) (text last : List ℕ) (long : ℕ) → long ≡ length (field_bytes 0x0A text ++ last)
+    → length (field_bytes tag (field_bytes 0x0A text ++ last)) ≡ 1 + length (form long) + length (field_bytes 0x0A text) + length last
+field_long tag text last long is =
+    let m = field_bytes 0x0A text ++ last in
+    let f : length (form long) ≡ length (form (length m)) = ap (λ k. length (form k)) is in
+    omega (arith, length-append (form (length m)) m, length-append (field_bytes 0x0A text) last)
 
-module _ (tag : ℕ) (text : List ℕ) (long : length text ≡ 64) where
-  field_long : length (field_bytes tag text) ≡ 66
-  field_long =
-      let l = length-append (form (length text)) text in
-      let f : length (form (length text)) ≡ 1 = ap (λ n. length (form n)) long ∙ one_byte in
-      omega arith
+module _ (e : List ℕ) (s tag : ℕ) (text last more : List ℕ) (long : ℕ) (is : long ≡ length (field_bytes 0x0A text ++ last))
+    (room : s + (1 + length (form long) + length (field_bytes 0x0A text) + length last + length more) ≤ length e) where
+  abbrev field : List ℕ
+  field = field_bytes tag (field_bytes 0x0A text ++ last)
 
-  first : (ending (replicate 80 0) 0 (field_bytes tag text) ≡ Ok (0 + length (field_bytes tag text))) × (after (replicate 80 0) 0 (field_bytes tag text) ≡ written (replicate 80 0) 0 (field_bytes tag text))
-  first = fits (replicate 80 0) 0 (field_bytes tag text) (omega (arith, field_long))
+  abbrev headed : List ℕ
+  headed = (tag ∷ []) ++ form long
 
-  pub first_not_refused : {n : ℕ} → Err n ≡ ending (replicate 80 0) 0 (field_bytes tag text) → ⊥
-  first_not_refused d = let z : ◌≡◌ {A = ℕ} 0 1 = cc (d, first.0) in omega arith
+  abbrev named : List ℕ
+  named = headed ++ field_bytes 0x0A text
 
-  module _ (e₁ : List ℕ) (at : ℕ) (is : e₁ ≡ after (replicate 80 0) 0 (field_bytes tag text)) (answered : Ok at ≡ ending (replicate 80 0) 0 (field_bytes tag text)) (tag₂ n : ℕ) where
-    abbrev whole : List ℕ
-    whole = field_bytes tag text ++ last_bytes tag₂ n
+  whole : named ++ last ≡ field
+  whole = append_assoc headed (field_bytes 0x0A text) last ∙ ap (λ k. tag ∷ form k ++ (field_bytes 0x0A text ++ last)) is
 
-    here : at ≡ 0 + length (field_bytes tag text)
-    here = cc (answered, first.0)
+  start : Stands e s (tag ∷ []) (set e s tag) (s + 1)
+  start = begun e s tag (omega arith)
 
-    second : (ending e₁ at (last_bytes tag₂ n) ≡ Ok (0 + length whole)) × (after e₁ at (last_bytes tag₂ n) ≡ written (replicate 80 0) 0 whole)
-    second = then_fits (replicate 80 0) 0 (field_bytes tag text) (last_bytes tag₂ n) (omega (arith, field_long, last_length tag₂ n)) e₁ at (is ∙ first.1) here
+  pub number_fits : {k : ℕ} → Err k ≡ ending (set e s tag) (s + 1) (form long) → ⊥
+  number_fits = not_refused e s (tag ∷ []) _ _ start (form long) (omega arith)
 
-    pub second_not_refused : {k : ℕ} → Err k ≡ ending e₁ at (last_bytes tag₂ n) → ⊥
-    second_not_refused d = let z : ◌≡◌ {A = ℕ} 0 1 = cc (d, second.0) in omega arith
+  module _ (e₁ : List ℕ) (at₁ : ℕ) (is₁ : e₁ ≡ after (set e s tag) (s + 1) (form long)) (a₁ : Ok at₁ ≡ ending (set e s tag) (s + 1) (form long)) where
+    one : Stands e s headed e₁ at₁
+    one = onward e s (tag ∷ []) _ _ start (form long) (omega arith) e₁ at₁ is₁ a₁
 
-    pub composed : (e₂ : List ℕ) (len : ℕ) → e₂ ≡ after e₁ at (last_bytes tag₂ n) → Ok len ≡ ending e₁ at (last_bytes tag₂ n) → (take len e₂ ≡ whole) × (len ≤ 80)
-    composed e₂ len is₂ a =
-        let size : len ≡ 0 + length whole = cc (a, second.0) in
-        let same : length whole ≡ 0 + length whole = omega arith in (
-          ap (λ k. take k e₂) size ∙ ap (take (0 + length whole)) (is₂ ∙ second.1) ∙ take_at whole (drop (0 + length whole) (replicate 80 0)) (0 + length whole) same,
-          omega (arith, size, length-append (field_bytes tag text) (last_bytes tag₂ n), field_long, last_length tag₂ n),
-        )
+    pub text_fits : {k : ℕ} → Err k ≡ ending e₁ at₁ (field_bytes 0x0A text) → ⊥
+    text_fits = not_refused e s headed e₁ at₁ one (field_bytes 0x0A text) (omega arith)
+
+    module _ (e₂ : List ℕ) (at₂ : ℕ) (is₂ : e₂ ≡ after e₁ at₁ (field_bytes 0x0A text)) (a₂ : Ok at₂ ≡ ending e₁ at₁ (field_bytes 0x0A text)) where
+      two : Stands e s named e₂ at₂
+      two = onward e s headed e₁ at₁ one (field_bytes 0x0A text) (omega arith) e₂ at₂ is₂ a₂
+
+      last_room : s + length named + length last ≤ length e
+      last_room = let l = length-append headed (field_bytes 0x0A text) in omega arith
+
+      pub last_fits : {k : ℕ} → Err k ≡ ending e₂ at₂ last → ⊥
+      last_fits = not_refused e s named e₂ at₂ two last last_room
+
+      -- with the last part the field is whole
+      pub field_written : (ending e₂ at₂ last ≡ ending e s field) × (after e₂ at₂ last ≡ after e s field)
+      field_written = ends e s named e₂ at₂ two last last_room field whole
+
+      pub more_written : (e₃ : List ℕ) (at₃ : ℕ) → e₃ ≡ after e₂ at₂ last → Ok at₃ ≡ ending e₂ at₂ last
+          → (ending e₃ at₃ more ≡ ending e s (field ++ more)) × (after e₃ at₃ more ≡ after e s (field ++ more))
+      more_written e₃ at₃ is₃ a₃ =
+          let three = onward e s named e₂ at₂ two last last_room e₃ at₃ is₃ a₃ in
+          let l = length-append headed (field_bytes 0x0A text) in
+          let k = length-append named last in
+          ends e s (named ++ last) e₃ at₃ three more (omega arith) (field ++ more) (ap (λ f. f ++ more) whole)

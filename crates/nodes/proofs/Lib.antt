@@ -3,4 +3,5 @@ pub mod Digesting
 pub mod Judging
 pub mod Lasts
 pub mod Nesting
+pub mod Parts
 pub mod Writing

@@ -1,8 +1,9 @@
-ghost use Rattle.std.specs.Prelude.{◌≡◌, ◌≤◌, drop, IfOk};
+ghost use Rattle.std.specs.Prelude.{◌≡◌, ℕ, ◌≤◌, length, drop, IfOk};
 ghost use Rattle.wire.specs.Refusals.{reported};
 ghost use Rattle.wire.specs.Writing.{told, ending, after};
 ghost use Rattle.nodes.specs.Endings.{ended, last_number, last_bytes};
 
+use crate::room::has_room;
 use wire::{
     ReadCase, ReadFault, WriteFault, number_length, read_number, write_bytes, write_number,
 };
@@ -45,6 +46,17 @@ pub fn read_last_number(message: &[u8], start: usize, tag: u8, most: u64) -> Res
     Ok(number)
 }
 
+// How many bytes such a field takes, whatever its tag.
+pub fn last_number_length(number: u64) -> usize
+    ensures value { (tag : ℕ) → result ≡ length (last_bytes tag number) }
+    ensures short { result ≤ 11 }
+{
+    if number == 0 {
+        return 0;
+    }
+    1 + number_length(number)
+}
+
 // Writes such a field, nothing for 0, from a place of the buffer on, and answers the place behind it.
 pub fn write_last_number(
     buffer: &mut [u8],
@@ -58,9 +70,7 @@ pub fn write_last_number(
     if number == 0 {
         return write_bytes(buffer, start, &[]);
     }
-    let room = buffer.len();
-    let taken = 1 + number_length(number);
-    if room < taken || room - taken < start {
+    if !has_room(buffer, start, last_number_length(number)) {
         return Err(WriteFault::NoRoom);
     }
     buffer[start] = tag;

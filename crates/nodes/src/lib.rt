@@ -1,7 +1,7 @@
 // The three kinds of node of a Directory.
 #![tactic(auto)]
 
-mod digest_bytes;
+mod digest_field;
 mod digest_message;
 mod directory;
 mod ending;
@@ -10,6 +10,7 @@ mod kind;
 mod link;
 mod name;
 mod node;
+mod room;
 
 pub use directory::DirectoryNode;
 pub use file::FileNode;

@@ -4,11 +4,11 @@ ghost use Rattle.nodes.specs.Kinds.{directory_reads, directory_writes, directory
 ghost use Rattle.nodes.specs.Laws.{directory_accepts, directory_returns};
 
 use super::DirectoryNode;
-use crate::digest_bytes::{DigestBytes, digest_bytes, digest_is_sound};
+use crate::digest_field::{digest_field_length, digest_is_sound, write_digest_field};
 use crate::digest_message::read_digest;
 use crate::ending::read_end;
 use crate::kind::NodeKind;
-use wire::{ReadFault, Span, WriteFault, field_length, read_field, write_field};
+use wire::{ReadFault, Span, WriteFault, read_field};
 
 impl NodeKind for DirectoryNode {
     ghost code = { 0x12 };
@@ -59,17 +59,10 @@ impl NodeKind for DirectoryNode {
         buffer: &mut [u8],
         start: usize,
     ) -> Result<usize, WriteFault> {
-        let DigestBytes { bytes, len } = digest_bytes(&self.digest)?;
-        write_field(buffer, start, 0x12, &bytes[0..len])
+        write_digest_field(buffer, start, 0x12, &self.digest, &[])
     }
 
     fn rest_length(&self, _text: &[u8]) -> usize {
-        match digest_bytes(&self.digest) {
-            Ok(message) => {
-                let DigestBytes { bytes, len } = message;
-                field_length(&bytes[0..len])
-            }
-            Err(_) => 0,
-        }
+        digest_field_length(&self.digest)
     }
 }

@@ -5,11 +5,11 @@ ghost use Rattle.nodes.specs.Kinds.{file_reads, file_writes, file_value, SoundFi
 ghost use Rattle.nodes.specs.Laws.{file_accepts, file_returns};
 
 use super::FileNode;
-use crate::digest_bytes::{DigestBytes, digest_bytes, digest_is_sound};
+use crate::digest_field::{digest_field_length, digest_is_sound, write_digest_field};
 use crate::digest_message::read_digest;
 use crate::ending::read_last_number;
 use crate::kind::NodeKind;
-use wire::{ReadFault, Span, WriteFault, field_length, read_field, write_bytes, write_field};
+use wire::{ReadFault, Span, WriteFault, read_field};
 
 impl NodeKind for FileNode {
     ghost code = { 0x0A };
@@ -63,18 +63,11 @@ impl NodeKind for FileNode {
         buffer: &mut [u8],
         start: usize,
     ) -> Result<usize, WriteFault> {
-        let DigestBytes { bytes, len } = digest_bytes(&self.digest)?;
-        write_field_then(buffer, start, 0x12, &bytes[0..len], mark(self.executable))
+        write_digest_field(buffer, start, 0x12, &self.digest, mark(self.executable))
     }
 
     fn rest_length(&self, _text: &[u8]) -> usize {
-        match digest_bytes(&self.digest) {
-            Ok(message) => {
-                let DigestBytes { bytes, len } = message;
-                field_length(&bytes[0..len]) + mark(self.executable).len()
-            }
-            Err(_) => 0,
-        }
+        digest_field_length(&self.digest) + mark(self.executable).len()
     }
 }
 
@@ -83,24 +76,4 @@ fn mark(executable: bool) -> &'static [u8]
     ensures { result.now ≡ (if executable then 0x20 ∷ 0x01 ∷ [] else []) }
 {
     if executable { &[0x20, 0x01] } else { &[] }
-}
-
-// Writes a field and further bytes from a place of the buffer on, and answers the place behind them.
-fn write_field_then(
-    buffer: &mut [u8],
-    start: usize,
-    tag: u8,
-    text: &[u8],
-    more: &[u8],
-) -> Result<usize, WriteFault>
-    ensures answer { told result ≡ ending buffer.old start (field_bytes tag text.now ++ more.now) }
-    ensures buffer { buffer.new ≡ after buffer.old start (field_bytes tag text.now ++ more.now) }
-{
-    let room = buffer.len();
-    let taken = field_length(text);
-    if room < taken || room - taken < more.len() || room - taken - more.len() < start {
-        return Err(WriteFault::NoRoom);
-    }
-    let behind = write_field(buffer, start, tag, text)?;
-    write_bytes(buffer, behind, more)
 }

@@ -1,5 +1,5 @@
 use Rattle.std.proofs.Common.{◌≡◌, ℕ, length, get_or, w32, Fits, rules}
-use Rattle.nodes.proofs.digest_bytes.digest_is_sound.Goals as goal
+use Rattle.nodes.proofs.digest_field.digest_is_sound.Goals as goal
 
 pub returns : goal.returns
 returns c =
