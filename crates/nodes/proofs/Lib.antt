@@ -4,4 +4,3 @@ pub mod Judging
 pub mod Lasts
 pub mod Nesting
 pub mod Parts
-pub mod Writing
