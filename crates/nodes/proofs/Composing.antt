@@ -1,8 +1,10 @@
 -- A field whose message is a field 0A and a last part, and more behind it, written part by part. Assumes nothing.
-use Rattle.std.proofs.Common.{◌≡◌, ℕ, ◌+◌, ◌<◌, ◌≤◌, List, [], ◌∷◌, ◌++◌, length, set, Ok, Err, sym, refl, ap, ◌∙◌, append_assoc, arith, length-append}
+use Rattle.std.proofs.Common.{◌≡◌, ℕ, ◌+◌, ◌<◌, ◌≤◌, List, [], ◌∷◌, ◌++◌, length, set, Ok, Err, ap, ◌∙◌, append_assoc, arith, length-append}
 use Rattle.wire.specs.Fields.{field_bytes}
 use Rattle.wire.specs.Numbers.{form}
 use Rattle.wire.specs.Writing.{ending, after}
+use Rattle.wire.proofs.Placing.{no_room}
+use Rattle.nodes.specs.Nodes.{node_bytes}
 use Rattle.nodes.proofs.Parts.{Stands, begun, not_refused, onward, ends}
 
 -- how long such a field is, the message having `long` bytes
@@ -12,6 +14,14 @@ field_long tag text last long is =
     let m = field_bytes 0x0A text ++ last in
     let f : length (form long) ≡ length (form (length m)) = ap (λ k. length (form k)) is in
     omega (arith, length-append (form (length m)) m, length-append (field_bytes 0x0A text) last)
+
+-- a node of a bytes for its name's field, and b for what follows
+module _ (e : List ℕ) (s t : ℕ) (name w : List ℕ) (a b : ℕ) (is_a : a ≡ length (field_bytes 0x0A name)) (is_b : b ≡ length w) where
+  pub node_length : length (node_bytes t name w) ≡ 1 + length (form (a + b)) + (a + b)
+  node_length = let l = length-append (field_bytes 0x0A name) w in omega (arith, field_long t name w (a + b) (omega arith))
+
+  pub no_room_for_node : length e < s + (1 + length (form (a + b)) + (a + b)) → (ending e s (node_bytes t name w) ≡ Err 8) × (after e s (node_bytes t name w) ≡ e)
+  no_room_for_node h = no_room e s (node_bytes t name w) (omega (arith, node_length))
 
 module _ (e : List ℕ) (s tag : ℕ) (text last more : List ℕ) (long : ℕ) (is : long ≡ length (field_bytes 0x0A text ++ last))
     (room : s + (1 + length (form long) + length (field_bytes 0x0A text) + length last + length more) ≤ length e) where

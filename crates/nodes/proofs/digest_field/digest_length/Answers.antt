@@ -1,4 +1,4 @@
-use Rattle.std.proofs.Common.{◌≡◌, ◌++◌, length, ap, ◌∙◌, arith, length-append}
+use Rattle.std.proofs.Common.{◌≡◌, length, ap, ◌∙◌, arith, length-append}
 use Rattle.hash.specs.Text.{text_of}
 use Rattle.wire.specs.Fields.{field_bytes}
 use Rattle.nodes.specs.Endings.{last_bytes}

@@ -10,12 +10,19 @@ use Rattle.nodes.proofs.Composing.{field_long, number_fits, text_fits, last_fits
 use Rattle.nodes.proofs.Parts.{there_is_room, no_room_for}
 use Rattle.nodes.proofs.digest_field.write_digest_field.Goals as goal
 
-pub returns-then-not-has_room : goal.returns-then-not-has_room
-returns-then-not-has_room c =
+pub returns-then-not-has_room-clause-answer : goal.returns-then-not-has_room-clause-answer
+returns-then-not-has_room-clause-answer c =
     let field = field_bytes c.args.tag (digest_bytes (value_of c.args.digest.now)) in
     let long : c.digest_field_length.result + length c.args.more.now ≡ length (field ++ c.args.more.now) = omega (arith, c.digest_field_length.ensures.value c.args.tag, length-append field c.args.more.now) in
     let p = no_room_for c.args.buffer.now c.args.start _ (field ++ c.args.more.now) long c.if-not-has_room.ensures in
-    record { answer = p.0; buffer = p.1 }
+    p.0
+
+pub returns-then-not-has_room-clause-buffer : goal.returns-then-not-has_room-clause-buffer
+returns-then-not-has_room-clause-buffer c =
+    let field = field_bytes c.args.tag (digest_bytes (value_of c.args.digest.now)) in
+    let long : c.digest_field_length.result + length c.args.more.now ≡ length (field ++ c.args.more.now) = omega (arith, c.digest_field_length.ensures.value c.args.tag, length-append field c.args.more.now) in
+    let p = no_room_for c.args.buffer.now c.args.start _ (field ++ c.args.more.now) long c.if-not-has_room.ensures in
+    p.1
 
 -- the room that was tested, part by part
 parts_fit : (e more text : List ℕ) (s tag size count long : ℕ) → long ≡ length (field_bytes 0x0A text ++ last_bytes 0x10 size)
@@ -59,8 +66,8 @@ returns-in_err-more_at c =
     _ _ (left _ _ _ _ _ c.to_text.ensures.value c.in_ok-size_at.ensures.buffer) (said _ _ _ _ _ c.to_text.ensures.value c.in_ok-size_at.ensures.answer)
     c.in_err-more_at.ensures.answer)
 
-pub returns : goal.returns
-returns c =
+pub returns-clause-buffer : goal.returns-clause-buffer
+returns-clause-buffer c =
     let text = text_of c.args.digest.now.hash.words in
     let last = last_bytes 0x10 c.args.digest.now.size in
     let room = parts_fit c.args.buffer.now c.args.more.now text c.args.start c.args.tag c.args.digest.now.size _ _ c.digest_length.ensures.value (c.digest_field_length.ensures.value c.args.tag) (there_is_room _ _ _ c.if-not-has_room.ensures) in
@@ -69,4 +76,4 @@ returns c =
     _ _ c.in_ok-hash_at.ensures.buffer c.in_ok-hash_at.ensures.answer
     _ _ (left _ _ _ _ _ c.to_text.ensures.value c.in_ok-size_at.ensures.buffer) (said _ _ _ _ _ c.to_text.ensures.value c.in_ok-size_at.ensures.answer)
     _ _ c.in_ok-more_at.ensures.buffer c.in_ok-more_at.ensures.answer in
-    record { answer = c.write_bytes.ensures.answer ∙ p.0; buffer = c.write_bytes.ensures.buffer ∙ p.1 }
+    c.write_bytes.ensures.buffer ∙ p.1

@@ -1,4 +1,4 @@
-use Rattle.std.proofs.Common.{◌≡◌, ◌+◌, ◌-◌, ◌^◌, min, sym, ap, ◌∙◌, length-append}
+use Rattle.std.proofs.Common.{◌+◌, ◌-◌, ◌^◌, min, sym, ap, ◌∙◌, length-append}
 use Rattle.wire.specs.Fields.{field_bytes}
 use Rattle.nodes.proofs.node.NewNode.message_length.Goals as goal
 

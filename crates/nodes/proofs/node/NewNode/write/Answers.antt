@@ -1,9 +1,9 @@
-use Rattle.std.proofs.Common.{◌≡◌, ℕ, ◌+◌, ◌-◌, ◌^◌, ◌<◌, ◌≤◌, true, List, [], ◌++◌, length, min, sym, ap, ◌∙◌, arith, length-append}
+use Rattle.std.proofs.Common.{◌≡◌, ℕ, ◌+◌, ◌-◌, ◌^◌, ◌<◌, ◌≤◌, true, List, [], ◌++◌, length, min, ap, ◌∙◌, arith, length-append}
 use Rattle.wire.specs.Fields.{field_bytes}
 use Rattle.wire.specs.Numbers.{form}
-use Rattle.wire.specs.Writing.{ending, after, has_room}
+use Rattle.wire.specs.Writing.{after, has_room}
 use Rattle.nodes.specs.Nodes.{node_bytes}
-use Rattle.nodes.proofs.Composing.{field_long, number_fits, text_fits, field_written}
+use Rattle.nodes.proofs.Composing.{field_long, field_written}
 use Rattle.nodes.proofs.Parts.{there_is_room}
 use Rattle.nodes.proofs.node.NewNode.write.Goals as goal
 
@@ -20,21 +20,8 @@ fitting e name w s tag long below fits is =
     let told : long ≡ length m = omega arith in
     record { told = told; room = omega (arith, field_long tag name w long told) }
 
-pub returns-in_err-name_at : goal.returns-in_err-name_at
-returns-in_err-name_at g c =
-    let w = g.K.NodeKind.writes (g.K.NodeKind.rest_in c.args.self.now.text.now c.args.self.now.rest.now) in
-    let f = fitting c.args.buffer.now c.args.self.now.name.now w c.args.start g.K.NodeKind.code c.message_length.result (omega arith) c.if-not-fits.ensures c.message_length.ensures in
-    absurd (number_fits c.args.buffer.now c.args.start c.tag.result c.args.self.now.name.now w [] _ f.told f.room c.in_err-name_at.ensures.answer)
-
-pub returns-in_err-rest_at : goal.returns-in_err-rest_at
-returns-in_err-rest_at g c =
-    let w = g.K.NodeKind.writes (g.K.NodeKind.rest_in c.args.self.now.text.now c.args.self.now.rest.now) in
-    let f = fitting c.args.buffer.now c.args.self.now.name.now w c.args.start g.K.NodeKind.code c.message_length.result (omega arith) c.if-not-fits.ensures c.message_length.ensures in
-    absurd (text_fits c.args.buffer.now c.args.start c.tag.result c.args.self.now.name.now w [] _ f.told f.room
-    _ _ c.in_ok-name_at.ensures.buffer c.in_ok-name_at.ensures.answer c.in_err-rest_at.ensures.answer)
-
-pub returns : goal.returns
-returns g c =
+pub returns-clause-buffer : goal.returns-clause-buffer
+returns-clause-buffer g c =
     let e = c.args.buffer.now in
     let s = c.args.start in
     let name = c.args.self.now.name.now in
@@ -43,7 +30,4 @@ returns g c =
     let p =
     field_written e s c.tag.result name w [] _ f.told f.room
     _ _ c.in_ok-name_at.ensures.buffer c.in_ok-name_at.ensures.answer _ _ c.in_ok-rest_at.ensures.buffer c.in_ok-rest_at.ensures.answer in
-    record {
-      answer = c.write_rest.ensures.answer ∙ p.0 ∙ ap (λ t. ending e s (node_bytes t name w)) c.tag.ensures;
-      buffer = c.write_rest.ensures.buffer ∙ p.1 ∙ ap (λ t. after e s (node_bytes t name w)) c.tag.ensures;
-    }
+    c.write_rest.ensures.buffer ∙ p.1 ∙ ap (λ t. after e s (node_bytes t name w)) c.tag.ensures

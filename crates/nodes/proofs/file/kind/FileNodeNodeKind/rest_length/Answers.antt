@@ -1,4 +1,4 @@
-use Rattle.std.proofs.Common.{◌≡◌, ◌+◌, ◌∙◌, length, sym, ap, length-append}
+use Rattle.std.proofs.Common.{◌+◌, ◌∙◌, length, sym, length-append}
 use Rattle.digest.specs.Digests.{value_of}
 use Rattle.wire.specs.Fields.{field_bytes}
 use Rattle.nodes.specs.Digests.{digest_bytes}

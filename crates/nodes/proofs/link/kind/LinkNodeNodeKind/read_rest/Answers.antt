@@ -4,32 +4,23 @@ use Rattle.wire.specs.Refusals.{refusal_of}
 use Rattle.wire.proofs.Finding.{found}
 use Rattle.nodes.specs.Kinds.{link_value}
 use Rattle.nodes.specs.Values.{valued}
-use Rattle.nodes.proofs.Judging.{none, target_refused, target_taken}
+use Rattle.nodes.proofs.Judging.{target_refused, target_taken}
 use Rattle.nodes.proofs.Lasts.{ended-refused, ended_well}
 use Rattle.nodes.proofs.link.kind.LinkNodeNodeKind.read_rest.Goals as goal
 
-pub returns-in_err-judge_target : goal.returns-in_err-judge_target
-returns-in_err-judge_target c =
+pub returns-in_err-judge_target-clause-value : goal.returns-in_err-judge_target-clause-value
+returns-in_err-judge_target-clause-value c =
     let p = err_from_is_err_and c.from_residual-in_err-judge_target.result c.from_residual-in_err-judge_target.ensures.1 in
-    record {
-      value = ap (valued link_value c.args.message.now) p.1 ∙ ap (λ f. Err (refusal_of f)) p.2
-          ∙ target_refused c.args.start c.args.message.now _ (found 0x12 _ _ _ c.in_ok-target.ensures.value) _ c.in_err-judge_target.ensures;
-      places = none _ _ _ p.1;
-    }
+    ap (valued link_value c.args.message.now) p.1 ∙ ap (λ f. Err (refusal_of f)) p.2
+    ∙ target_refused c.args.start c.args.message.now _ (found 0x12 _ _ _ c.in_ok-target.ensures.value) _ c.in_err-judge_target.ensures
 
-pub returns-in_err-read_end : goal.returns-in_err-read_end
-returns-in_err-read_end c =
+pub returns-in_err-read_end-clause-value : goal.returns-in_err-read_end-clause-value
+returns-in_err-read_end-clause-value c =
     let p = err_from_is_err_and c.from_residual-in_err-read_end.result c.from_residual-in_err-read_end.ensures.1 in
     let is = target_taken c.args.start c.args.message.now _ (found 0x12 _ _ _ c.in_ok-target.ensures.value) c.in_ok-judge_target.ensures in
-    record {
-      value = ap (valued link_value c.args.message.now) p.1 ∙ ap (λ f. Err (refusal_of f)) p.2 ∙ ended-refused _ _ _ _ c.in_err-read_end.ensures ∙ sym is;
-      places = none _ _ _ p.1;
-    }
+    ap (valued link_value c.args.message.now) p.1 ∙ ap (λ f. Err (refusal_of f)) p.2 ∙ ended-refused _ _ _ _ c.in_err-read_end.ensures ∙ sym is
 
-pub returns : goal.returns
-returns c =
+pub returns-clause-value : goal.returns-clause-value
+returns-clause-value c =
     let is = target_taken c.args.start c.args.message.now _ (found 0x12 _ _ _ c.in_ok-target.ensures.value) c.in_ok-judge_target.ensures in
-    record {
-      value = ended_well _ _ _ c.in_ok-read_end.ensures ∙ sym is;
-      places = sym c.in_ok-target.ensures.value;
-    }
+    ended_well _ _ _ c.in_ok-read_end.ensures ∙ sym is
