@@ -1,5 +1,6 @@
 ghost use Rattle.std.specs.Prelude.{◌≡◌};
 ghost use Rattle.writer.specs.Faults.{writer_refusal};
+ghost use Rattle.writer.specs.declared.fault.WriterFault.TheVariants.{Read, Write};
 
 use wire::{ReadCase, ReadFault, WriteFault};
 
@@ -37,5 +38,21 @@ impl WriterFault {
             WriterFault::Read(fault) => fault.place,
             WriterFault::Write(_) => 0,
         }
+    }
+}
+
+impl From<ReadFault> for WriterFault {
+    ghost from_gives = { λ f r. r ≡ Read f };
+
+    fn from(read: ReadFault) -> WriterFault {
+        WriterFault::Read(read)
+    }
+}
+
+impl From<WriteFault> for WriterFault {
+    ghost from_gives = { λ f r. r ≡ Write f };
+
+    fn from(write: WriteFault) -> WriterFault {
+        WriterFault::Write(write)
     }
 }

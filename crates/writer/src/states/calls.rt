@@ -6,11 +6,10 @@ ghost use Rattle.writer.specs.States.{started, on_to, ended, adding};
 ghost use Rattle.writer.specs.Views.{files_state, directories_state, links_state, begun, finished, GivenBack, file_bytes, directory_bytes, link_bytes};
 
 use super::{Directories, Files, Links};
-use crate::add::{add_link, add_node, check};
 use crate::fault::{LENGTH, WriterFault};
 use crate::mark::Mark;
 use directory::Part;
-use nodes::{DirectoryNode, FileNode};
+use nodes::{DirectoryNode, FileNode, NewNode};
 
 // The longest buffer, in bytes.
 const MAX_BYTES: usize = 16_777_216;
@@ -40,10 +39,12 @@ impl Files {
         ensures state { files_state self.new ≡ (adding (files_state self.old) buffer.old (file_bytes name.now node.now)).state }
         ensures buffer { buffer.new ≡ (adding (files_state self.old) buffer.old (file_bytes name.now node.now)).buffer }
     {
-        let Mark { long, .. } = self.mark;
-        let used = add_node(buffer, self.mark, Part::Files, name, node, &[])?;
-        self.mark = Mark { used, long };
-        Ok(())
+        let node = NewNode {
+            name,
+            rest: node,
+            text: &[],
+        };
+        self.mark.add(buffer, Part::Files, &node)
     }
 
     // Goes on to the directories.
@@ -66,10 +67,12 @@ impl Directories {
         ensures state { directories_state self.new ≡ (adding (directories_state self.old) buffer.old (directory_bytes name.now node.now)).state }
         ensures buffer { buffer.new ≡ (adding (directories_state self.old) buffer.old (directory_bytes name.now node.now)).buffer }
     {
-        let Mark { long, .. } = self.mark;
-        let used = add_node(buffer, self.mark, Part::Directories, name, node, &[])?;
-        self.mark = Mark { used, long };
-        Ok(())
+        let node = NewNode {
+            name,
+            rest: node,
+            text: &[],
+        };
+        self.mark.add(buffer, Part::Directories, &node)
     }
 
     // Goes on to the links.
@@ -87,10 +90,7 @@ impl Links {
         ensures state { links_state self.new ≡ (adding (links_state self.old) buffer.old (link_bytes name.now target.now)).state }
         ensures buffer { buffer.new ≡ (adding (links_state self.old) buffer.old (link_bytes name.now target.now)).buffer }
     {
-        let Mark { long, .. } = self.mark;
-        let used = add_link(buffer, self.mark, name, target)?;
-        self.mark = Mark { used, long };
-        Ok(())
+        self.mark.add_link(buffer, name, target)
     }
 
     // Ends the Directory, and answers how many bytes it has. A refusal gives the writer back.
@@ -101,7 +101,7 @@ impl Links {
         ensures same { NodesReadGiveTheSameBytes }
     {
         let Mark { used, .. } = self.mark;
-        match check(buffer, self.mark, Part::Links) {
+        match self.mark.check(buffer, Part::Links) {
             Ok(_) => Ok(used),
             Err(fault) => Err((self, fault)),
         }

@@ -8,7 +8,7 @@ use Rattle.nodes.specs.Nodes.{node_bytes}
 use Rattle.writer.specs.Growing.{inside}
 use Rattle.writer.specs.Judging.{met_before}
 use Rattle.writer.proofs.Saying.{name_refused, rest_decides}
-use Rattle.writer.proofs.judge.judge_node.Goals as goal
+use Rattle.writer.proofs.judge.SoFarIn.judge_node.Goals as goal
 
 -- what the node takes
 record Lengths (m name w : List ℕ) (code a b : ℕ) : Type 0 where
@@ -37,37 +37,25 @@ module _ (m name w : List ℕ) (code a b j k : ℕ) (l : Lengths m name w code a
       let inner = l.inner in
       omega arith
 
-pub overflow_add-body : goal.overflow_add-body
-overflow_add-body g c =
-    let l = lengths c.args.bytes.now c.args.name.now _ g.K.NodeKind.code _ _ (c.field_length.ensures.value 10) c.rest_length.ensures.value c.requires in
-    let whole = l.whole in
-    omega arith
-
-pub overflow_cast-place : goal.overflow_cast-place
-overflow_cast-place g c =
-    let l = lengths c.args.bytes.now c.args.name.now _ g.K.NodeKind.code _ _ (c.field_length.ensures.value 10) c.rest_length.ensures.value c.requires in
-    let f = fits c.args.bytes.now c.args.name.now _ g.K.NodeKind.code _ _ _ _ l c.number_length.ensures.value c.number_length-2.ensures.value in
-    omega arith
-
 pub returns-in_err-judge_name : goal.returns-in_err-judge_name
 returns-in_err-judge_name g c =
     let p = err_from_is_err_and c.from_residual.result c.from_residual.ensures.1 in
     let k = g.K.NodeKind in
-    let m = c.args.bytes.now in
-    let name = c.args.name.now in
-    let w = k.writes (k.rest_in c.args.text.now c.args.rest.now) in
+    let m = c.args.self.now.bytes.now in
+    let name = c.args.node.now.name.now in
+    let w = k.writes (k.rest_in c.args.node.now.text.now c.args.node.now.rest.now) in
     let l = lengths m name w k.code _ _ (c.field_length.ensures.value 10) c.rest_length.ensures.value c.requires in
     let at = placed_at m name w k.code _ _ _ _ l c.number_length.ensures.value c.number_length-2.ensures.value in
     ap reported p.1 ∙ ap (λ f. Err (refusal_of f)) p.2
-    ∙ name_refused k.code k.reads (met_before m c.args.part c.args.so_far.sections) (text_at m c.args.so_far.last) _ name w (omega arith) _ _ at c.in_err-judge_name.ensures
+    ∙ name_refused k.code k.reads (met_before m c.args.self.now.part c.args.self.now.so_far.sections) (text_at m c.args.self.now.so_far.last) _ name w (omega arith) _ _ at c.in_err-judge_name.ensures
 
 pub returns : goal.returns
 returns g c =
     let k = g.K.NodeKind in
-    let m = c.args.bytes.now in
-    let name = c.args.name.now in
-    let w = k.writes (k.rest_in c.args.text.now c.args.rest.now) in
+    let m = c.args.self.now.bytes.now in
+    let name = c.args.node.now.name.now in
+    let w = k.writes (k.rest_in c.args.node.now.text.now c.args.node.now.rest.now) in
     let l = lengths m name w k.code _ _ (c.field_length.ensures.value 10) c.rest_length.ensures.value c.requires in
     let at = placed_at m name w k.code _ _ _ _ l c.number_length.ensures.value c.number_length-2.ensures.value in
     c.judge_rest.ensures
-    ∙ rest_decides k.code k.reads (met_before m c.args.part c.args.so_far.sections) (text_at m c.args.so_far.last) _ name w (omega arith) _ at c.in_ok-judge_name.ensures
+    ∙ rest_decides k.code k.reads (met_before m c.args.self.now.part c.args.self.now.so_far.sections) (text_at m c.args.self.now.so_far.last) _ name w (omega arith) _ at c.in_ok-judge_name.ensures
