@@ -1,5 +1,5 @@
 -- A node judged before it is written, and read once it stands there. Assumes nothing.
-use Rattle.std.proofs.Common.{◌≡◌, ℕ, ◌+◌, ◌≤◌, Bool, true, false, cond, ◌||◌, eqb, List, [], ◌++◌, length, Ok, Err, Result, sym, refl, ap, ◌∙◌}
+use Rattle.std.proofs.Common.{◌≡◌, ℕ, ◌+◌, ◌≤◌, true, cond, ◌||◌, eqb, List, [], ◌++◌, length, Ok, Err, Result, sym, refl, ap, ◌∙◌}
 use Rattle.std.proofs.lemmas.Bool.{cond-true, leb-true}
 use Rattle.wire.specs.Fields.{field_bytes}
 use Rattle.wire.specs.Refusals.{Refusal, refused, next}
@@ -58,14 +58,6 @@ module _ (s : State) (buffer : List ℕ) where
   ends so e =
       let k = kept so e in
       cond-true (eqb (length buffer) s.long) _ _ k.0 ∙ ap (λ r. next r (λ _. Ok s.used)) (was so_far_of (part_of s.part (so_far s buffer)) so k.1).1
-
-  pub ends-refused : (r : Refusal) → Err r ≡ checked s buffer → ended s buffer ≡ Err r
-  ends-refused r e = go (eqb (length buffer) s.long) (part_of s.part (so_far s buffer)) e
-    where
-      go : (b : Bool) (x : Result Reading Refusal) → Err r ≡ cond b (answered so_far_of x) (refused 5 0) → cond b (next x (λ _. Ok s.used)) (refused 5 0) ≡ Err r
-      go false x e = cc
-      go true (Ok q) e = absurd (not_ok e)
-      go true (Err d) e = cc
 
 -- what adding answers once the bytes so far were read and there is room
 module _ (s : State) (buffer node : List ℕ) (so : SoFar) (e : Ok so ≡ checked s buffer) (room : has_room buffer s.used node ≡ true) where

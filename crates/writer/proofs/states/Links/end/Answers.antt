@@ -1,21 +1,14 @@
-use Rattle.std.proofs.Common.{sym, refl}
-use Rattle.writer.specs.Views.{links_state}
-use Rattle.writer.proofs.Adding.{ends, ends-refused}
 use Rattle.writer.proofs.Rounds.{nodes_taken_are_read_back, nodes_read_give_the_same_bytes}
 use Rattle.writer.proofs.states.Links.end.Goals as goal
 
-pub returns-in-Ok : goal.returns-in-Ok
-returns-in-Ok c = record {
-  answer = sym (ends (links_state c.args.self) c.args.buffer.now _ c.in-Ok.ensures);
-  back = tt;
-  taken = nodes_taken_are_read_back;
-  same = nodes_read_give_the_same_bytes;
-}
+pub returns-in-Ok-clause-taken : goal.returns-in-Ok-clause-taken
+returns-in-Ok-clause-taken c = nodes_taken_are_read_back
 
-pub returns-in-Err : goal.returns-in-Err
-returns-in-Err c = record {
-  answer = sym (ends-refused (links_state c.args.self) c.args.buffer.now _ c.in-Err.ensures);
-  back = refl;
-  taken = nodes_taken_are_read_back;
-  same = nodes_read_give_the_same_bytes;
-}
+pub returns-in-Ok-clause-same : goal.returns-in-Ok-clause-same
+returns-in-Ok-clause-same c = nodes_read_give_the_same_bytes
+
+pub returns-in-Err-clause-taken : goal.returns-in-Err-clause-taken
+returns-in-Err-clause-taken c = nodes_taken_are_read_back
+
+pub returns-in-Err-clause-same : goal.returns-in-Err-clause-same
+returns-in-Err-clause-same c = nodes_read_give_the_same_bytes
