@@ -5,11 +5,11 @@ ghost use Rattle.sources.specs.Fetching.{number as number_of};
 #[derive(Clone, Copy, Debug, PartialEq, Eq)]
 pub enum SourceFault {
     // Its size exceeds the buffer.
-    NoRoom,
+    NoRoom = 8,
     // The source holds nothing under the digest.
-    Missing,
+    Missing = 10,
     // The source's blob is spoiled.
-    Damaged,
+    Damaged = 11,
 }
 
 impl SourceFault {
@@ -17,10 +17,6 @@ impl SourceFault {
     pub fn number(self) -> u8
         ensures { result ≡ number_of self }
     {
-        match self {
-            SourceFault::NoRoom => 8,
-            SourceFault::Missing => 10,
-            SourceFault::Damaged => 11,
-        }
+        self as u8
     }
 }

@@ -17,10 +17,7 @@ pub struct Verifying<S> {
 fn has_digest(bytes: &[u8], digest: &Digest) -> bool
     ensures { result ≡ has bytes.now (value_of digest.now) }
 {
-    match Digest::of(bytes) {
-        Ok(other) => other == *digest,
-        Err(_) => false,
-    }
+    Digest::of(bytes).is_ok_and(|other| other == *digest)
 }
 
 impl<S: Source> Verifying<S> {

@@ -24,28 +24,41 @@ mod tests {
         asked: &[u8],
         size: i64,
         room: usize,
-    ) -> Result<(u8, [u8; 5]), Fail> {
+    ) -> Result<(Option<u8>, [u8; 5]), Fail> {
         let under = Digest::from_text(listed, 3)?;
         let digest = Digest::from_text(asked, size)?;
         let mut source = Verifying::new(Listed { under, bytes });
         let mut buffer = [0xAA; 5];
-        let number = match source.fetch(&digest, &mut buffer[..room.min(5)]) {
-            Ok(()) => 0,
-            Err(fault) => fault.number(),
-        };
-        Ok((number, buffer))
+        let answer = source.fetch(&digest, &mut buffer[..room.min(5)]);
+        Ok((answer.err().map(|fault| fault.number()), buffer))
     }
 
     #[test]
     fn answers_and_buffers(rt: HostRuntime) -> Result<(), Fail> {
-        let rows: [(&[u8], [u8; 3], &[u8], i64, usize, u8, [u8; 5]); 7] = [
-            (ABC, *b"abc", ABC, 3, 5, 0, [0x61, 0x62, 0x63, 0xAA, 0xAA]),
-            (ABC, *b"abc", ABC, 3, 3, 0, [0x61, 0x62, 0x63, 0xAA, 0xAA]),
-            (ABC, *b"abc", ABC, 3, 2, 8, [0xAA; 5]),
-            (ABC, *b"abd", ABC, 3, 5, 11, [0, 0, 0, 0xAA, 0xAA]),
-            (NONE, *b"abc", NONE, 3, 5, 11, [0, 0, 0, 0xAA, 0xAA]),
-            (ABC, *b"abc", NONE, 0, 5, 10, [0xAA; 5]),
-            (ABC, *b"abc", ABC, 4, 5, 10, [0xAA; 5]),
+        let rows: [(&[u8], [u8; 3], &[u8], i64, usize, Option<u8>, [u8; 5]); 7] = [
+            (
+                ABC,
+                *b"abc",
+                ABC,
+                3,
+                5,
+                None,
+                [0x61, 0x62, 0x63, 0xAA, 0xAA],
+            ),
+            (
+                ABC,
+                *b"abc",
+                ABC,
+                3,
+                3,
+                None,
+                [0x61, 0x62, 0x63, 0xAA, 0xAA],
+            ),
+            (ABC, *b"abc", ABC, 3, 2, Some(8), [0xAA; 5]),
+            (ABC, *b"abd", ABC, 3, 5, Some(11), [0, 0, 0, 0xAA, 0xAA]),
+            (NONE, *b"abc", NONE, 3, 5, Some(11), [0, 0, 0, 0xAA, 0xAA]),
+            (ABC, *b"abc", NONE, 0, 5, Some(10), [0xAA; 5]),
+            (ABC, *b"abc", ABC, 4, 5, Some(10), [0xAA; 5]),
         ];
         for (i, (listed, bytes, asked, size, room, number, after)) in rows.iter().enumerate() {
             assert_eq!(rt;
