@@ -6,7 +6,7 @@ use std::test::Fail;
 fn names_of_files(rt: HostRuntime) -> Result<(), Fail> {
     let mut buffer = filled(rt.alloc(), &[b""], 500)?;
     let mut files = started(buffer.as_slice())?;
-    assert_eq!(rt; files.put(buffer.as_mut_slice(), b"bb", b"")?, (0, 0));
+    assert_eq!(rt; files.put(buffer.as_mut_slice(), b"bb", b"")?, Ok(()));
     check_refused(
         &rt,
         &mut files,
@@ -35,7 +35,7 @@ fn names_of_files(rt: HostRuntime) -> Result<(), Fail> {
             (&[b'c'; 256], b"", 16, 80),
         ],
     )?;
-    assert_eq!(rt; files.put(buffer.as_mut_slice(), b"bbb", b"")?, (0, 0));
+    assert_eq!(rt; files.put(buffer.as_mut_slice(), b"bbb", b"")?, Ok(()));
     let expected = b"\x0A\x48\x0A\x02bb\x12\x42\x0A\x40#\x0A\x49\x0A\x03bbb\x12\x42\x0A\x40#";
     assert_eq!(rt;
         buffer.as_slice(),
@@ -49,8 +49,8 @@ fn names_of_files(rt: HostRuntime) -> Result<(), Fail> {
 fn names_of_directories(rt: HostRuntime) -> Result<(), Fail> {
     let mut buffer = filled(rt.alloc(), &[b""], 500)?;
     let mut files = started(buffer.as_slice())?;
-    assert_eq!(rt; files.put(buffer.as_mut_slice(), b"b", b"")?, (0, 0));
-    assert_eq!(rt; files.put(buffer.as_mut_slice(), b"f", b"")?, (0, 0));
+    assert_eq!(rt; files.put(buffer.as_mut_slice(), b"b", b"")?, Ok(()));
+    assert_eq!(rt; files.put(buffer.as_mut_slice(), b"f", b"")?, Ok(()));
     let mut directories = files.directories();
     check_refused(
         &rt,
@@ -58,7 +58,7 @@ fn names_of_directories(rt: HostRuntime) -> Result<(), Fail> {
         &mut buffer,
         &[(b"b", b"", 18, 150), (b"f", b"", 18, 150)],
     )?;
-    assert_eq!(rt; directories.put(buffer.as_mut_slice(), b"d", b"")?, (0, 0));
+    assert_eq!(rt; directories.put(buffer.as_mut_slice(), b"d", b"")?, Ok(()));
     check_refused(
         &rt,
         &mut directories,
@@ -74,9 +74,9 @@ fn names_of_directories(rt: HostRuntime) -> Result<(), Fail> {
             (b"b", b"", 17, 223),
         ],
     )?;
-    assert_eq!(rt; directories.put(buffer.as_mut_slice(), b"e", b"")?, (0, 0));
+    assert_eq!(rt; directories.put(buffer.as_mut_slice(), b"e", b"")?, Ok(()));
     check_refused(&rt, &mut directories, &mut buffer, &[(b"f", b"", 18, 296)])?;
-    assert_eq!(rt; directories.put(buffer.as_mut_slice(), b"ff", b"")?, (0, 0));
+    assert_eq!(rt; directories.put(buffer.as_mut_slice(), b"ff", b"")?, Ok(()));
     let expected =
         b"\x0A\x47\x0A\x01b\x12\x42\x0A\x40#\x0A\x47\x0A\x01f\x12\x42\x0A\x40#\x12\x47\x0A\x01d\x12\x42\x0A\x40#\x12\x47\x0A\x01e\x12\x42\x0A\x40#\x12\x48\x0A\x02ff\x12\x42\x0A\x40#";
     assert_eq!(rt;
@@ -91,13 +91,13 @@ fn names_of_directories(rt: HostRuntime) -> Result<(), Fail> {
 fn names_and_targets_of_links(rt: HostRuntime) -> Result<(), Fail> {
     let mut buffer = filled(rt.alloc(), &[b""], 5000)?;
     let mut files = started(buffer.as_slice())?;
-    assert_eq!(rt; files.put(buffer.as_mut_slice(), b"b", b"")?, (0, 0));
-    assert_eq!(rt; files.put(buffer.as_mut_slice(), b"f", b"")?, (0, 0));
+    assert_eq!(rt; files.put(buffer.as_mut_slice(), b"b", b"")?, Ok(()));
+    assert_eq!(rt; files.put(buffer.as_mut_slice(), b"f", b"")?, Ok(()));
     let mut directories = files.directories();
-    assert_eq!(rt; directories.put(buffer.as_mut_slice(), b"d", b"")?, (0, 0));
-    assert_eq!(rt; directories.put(buffer.as_mut_slice(), b"h", b"")?, (0, 0));
+    assert_eq!(rt; directories.put(buffer.as_mut_slice(), b"d", b"")?, Ok(()));
+    assert_eq!(rt; directories.put(buffer.as_mut_slice(), b"h", b"")?, Ok(()));
     let mut links = directories.links();
-    assert_eq!(rt; links.put(buffer.as_mut_slice(), b"cc", b"x")?, (0, 0));
+    assert_eq!(rt; links.put(buffer.as_mut_slice(), b"cc", b"x")?, Ok(()));
     check_refused(
         &rt,
         &mut links,
@@ -137,7 +137,7 @@ fn names_and_targets_of_links(rt: HostRuntime) -> Result<(), Fail> {
             (b"e", &[b't'; 4097], 19, 310),
         ],
     )?;
-    assert_eq!(rt; links.put(buffer.as_mut_slice(), b"e", b"../x")?, (0, 0));
+    assert_eq!(rt; links.put(buffer.as_mut_slice(), b"e", b"../x")?, Ok(()));
     let expected =
         b"\x0A\x47\x0A\x01b\x12\x42\x0A\x40#\x0A\x47\x0A\x01f\x12\x42\x0A\x40#\x12\x47\x0A\x01d\x12\x42\x0A\x40#\x12\x47\x0A\x01h\x12\x42\x0A\x40#\x1A\x07\x0A\x02cc\x12\x01x\x1A\x09\x0A\x01e\x12\x04../x";
     assert_eq!(rt;

@@ -12,6 +12,7 @@ pub fn digest(size: i64) -> Result<Digest, Fail> {
     Ok(Digest::from_text(EMPTY, size)?)
 }
 
+// The tests of `directory` spell bytes alike: one function for both would stand in a library, with a contract, and be no plainer.
 // A buffer: the parts one behind the other, where `#` stands for the 64 characters of the hash text of no bytes, and then AA up to a length.
 pub fn filled(heap: Global, parts: &[&[u8]], len: usize) -> Result<Vec<u8>, Fail> {
     let mut bytes = Vec::new(heap);
@@ -23,26 +24,22 @@ pub fn filled(heap: Global, parts: &[&[u8]], len: usize) -> Result<Vec<u8>, Fail
             }
         }
     }
-    for _ in bytes.len()..len {
-        bytes.push(0xAA)?;
+    if bytes.len() < len {
+        bytes.resize(len, 0xAA)?;
     }
     Ok(bytes)
 }
 
-// The number and the place of a refusal, zeros where there is none.
-pub fn refusal(answer: Result<(), WriterFault>) -> (u8, usize) {
-    match answer {
-        Ok(()) => (0, 0),
-        Err(fault) => (fault.number(), fault.place()),
-    }
+// What adding answers, a refusal by its number and place.
+pub type Answer = Result<(), (u8, usize)>;
+
+pub fn told(answer: Result<(), WriterFault>) -> Answer {
+    answer.map_err(|fault| (fault.number(), fault.place()))
 }
 
 // A writer that starts.
 pub fn started(buffer: &[u8]) -> Result<Files, Fail> {
-    match Files::start(buffer) {
-        Ok(files) => Ok(files),
-        Err(fault) => Err(Fail::new(fault.number())),
-    }
+    Files::start(buffer).map_err(|fault| Fail::new(fault.number()))
 }
 
 // The end of a Directory of so many bytes.
@@ -75,30 +72,30 @@ pub fn check_no_end(
 
 // A writer in one of its parts.
 pub trait Puts {
-    // Adds a node of no bytes, or a link with a target, and answers the refusal's number and place.
-    fn put(&mut self, buffer: &mut [u8], name: &[u8], target: &[u8]) -> Result<(u8, usize), Fail>;
+    // Adds a node of no bytes, or a link with a target.
+    fn put(&mut self, buffer: &mut [u8], name: &[u8], target: &[u8]) -> Result<Answer, Fail>;
 }
 
 impl Puts for Files {
-    fn put(&mut self, buffer: &mut [u8], name: &[u8], _target: &[u8]) -> Result<(u8, usize), Fail> {
+    fn put(&mut self, buffer: &mut [u8], name: &[u8], _target: &[u8]) -> Result<Answer, Fail> {
         let node = FileNode {
             digest: digest(0)?,
             executable: false,
         };
-        Ok(refusal(self.add(buffer, name, &node)))
+        Ok(told(self.add(buffer, name, &node)))
     }
 }
 
 impl Puts for Directories {
-    fn put(&mut self, buffer: &mut [u8], name: &[u8], _target: &[u8]) -> Result<(u8, usize), Fail> {
+    fn put(&mut self, buffer: &mut [u8], name: &[u8], _target: &[u8]) -> Result<Answer, Fail> {
         let node = DirectoryNode { digest: digest(0)? };
-        Ok(refusal(self.add(buffer, name, &node)))
+        Ok(told(self.add(buffer, name, &node)))
     }
 }
 
 impl Puts for Links {
-    fn put(&mut self, buffer: &mut [u8], name: &[u8], target: &[u8]) -> Result<(u8, usize), Fail> {
-        Ok(refusal(self.add(buffer, name, target)))
+    fn put(&mut self, buffer: &mut [u8], name: &[u8], target: &[u8]) -> Result<Answer, Fail> {
+        Ok(told(self.add(buffer, name, target)))
     }
 }
 
@@ -112,7 +109,7 @@ pub fn check_refused<P: Puts>(
     let before = buffer.clone()?;
     for (i, (name, target, number, place)) in rows.iter().enumerate() {
         let answer = part.put(buffer.as_mut_slice(), *name, *target)?;
-        assert_eq!(rt; answer, (*number, *place), "{}", i);
+        assert_eq!(rt; answer, Err((*number, *place)), "{}", i);
         assert_eq!(rt; buffer.as_slice(), before.as_slice(), "{}", i);
     }
     Ok(())

@@ -1,19 +1,19 @@
-use crate::rows::{Puts, check_end, check_no_end, check_so_far, filled, started};
+use crate::rows::{Answer, Puts, check_end, check_no_end, check_so_far, filled, started};
 use std::test::Fail;
 
 // Files a at 0 and b at 73, up to 146. In a buffer of 146 bytes no other fits, and what the bytes so far refuse still comes first.
 #[test]
 fn in_files(rt: HostRuntime) -> Result<(), Fail> {
-    let ends: [(usize, (u8, usize), &[u8], usize); 2] = [
+    let ends: [(usize, Answer, &[u8], usize); 2] = [
         (
             146,
-            (8, 0),
+            Err((8, 0)),
             b"\x0A\x47\x0A\x01a\x12\x42\x0A\x40#\x0A\x47\x0A\x01b\x12\x42\x0A\x40#",
             146,
         ),
         (
             346,
-            (0, 0),
+            Ok(()),
             b"\x0A\x47\x0A\x01a\x12\x42\x0A\x40#\x0A\x47\x0A\x01b\x12\x42\x0A\x40#\x0A\x47\x0A\x01c\x12\x42\x0A\x40#",
             219,
         ),
@@ -21,8 +21,8 @@ fn in_files(rt: HostRuntime) -> Result<(), Fail> {
     for (len, answer, bytes, count) in ends {
         let mut buffer = filled(rt.alloc(), &[b""], len)?;
         let mut files = started(buffer.as_slice())?;
-        assert_eq!(rt; files.put(buffer.as_mut_slice(), b"a", b"")?, (0, 0));
-        assert_eq!(rt; files.put(buffer.as_mut_slice(), b"b", b"")?, (0, 0));
+        assert_eq!(rt; files.put(buffer.as_mut_slice(), b"a", b"")?, Ok(()));
+        assert_eq!(rt; files.put(buffer.as_mut_slice(), b"b", b"")?, Ok(()));
         check_so_far(
             &rt,
             rt.alloc(),
@@ -80,16 +80,16 @@ fn in_files(rt: HostRuntime) -> Result<(), Fail> {
 // A file a at 0 and a directory b at 73, up to 146.
 #[test]
 fn in_directories(rt: HostRuntime) -> Result<(), Fail> {
-    let ends: [(usize, (u8, usize), &[u8], usize); 2] = [
+    let ends: [(usize, Answer, &[u8], usize); 2] = [
         (
             146,
-            (8, 0),
+            Err((8, 0)),
             b"\x0A\x47\x0A\x01a\x12\x42\x0A\x40#\x12\x47\x0A\x01b\x12\x42\x0A\x40#",
             146,
         ),
         (
             346,
-            (0, 0),
+            Ok(()),
             b"\x0A\x47\x0A\x01a\x12\x42\x0A\x40#\x12\x47\x0A\x01b\x12\x42\x0A\x40#\x12\x47\x0A\x01c\x12\x42\x0A\x40#",
             219,
         ),
@@ -97,9 +97,9 @@ fn in_directories(rt: HostRuntime) -> Result<(), Fail> {
     for (len, answer, bytes, count) in ends {
         let mut buffer = filled(rt.alloc(), &[b""], len)?;
         let mut files = started(buffer.as_slice())?;
-        assert_eq!(rt; files.put(buffer.as_mut_slice(), b"a", b"")?, (0, 0));
+        assert_eq!(rt; files.put(buffer.as_mut_slice(), b"a", b"")?, Ok(()));
         let mut directories = files.directories();
-        assert_eq!(rt; directories.put(buffer.as_mut_slice(), b"b", b"")?, (0, 0));
+        assert_eq!(rt; directories.put(buffer.as_mut_slice(), b"b", b"")?, Ok(()));
         check_so_far(
             &rt,
             rt.alloc(),
@@ -188,16 +188,16 @@ fn in_links(rt: HostRuntime) -> Result<(), Fail> {
             146,
         ),
     ];
-    let ends: [(usize, (u8, usize), &[u8], usize); 2] = [
+    let ends: [(usize, Answer, &[u8], usize); 2] = [
         (
             154,
-            (8, 0),
+            Err((8, 0)),
             b"\x0A\x47\x0A\x01a\x12\x42\x0A\x40#\x12\x47\x0A\x01b\x12\x42\x0A\x40#\x1A\x06\x0A\x01c\x12\x01x",
             154,
         ),
         (
             354,
-            (0, 0),
+            Ok(()),
             b"\x0A\x47\x0A\x01a\x12\x42\x0A\x40#\x12\x47\x0A\x01b\x12\x42\x0A\x40#\x1A\x06\x0A\x01c\x12\x01x\x1A\x06\x0A\x01d\x12\x01x",
             162,
         ),
@@ -205,11 +205,11 @@ fn in_links(rt: HostRuntime) -> Result<(), Fail> {
     for (len, answer, bytes, count) in ends {
         let mut buffer = filled(rt.alloc(), &[b""], len)?;
         let mut files = started(buffer.as_slice())?;
-        assert_eq!(rt; files.put(buffer.as_mut_slice(), b"a", b"")?, (0, 0));
+        assert_eq!(rt; files.put(buffer.as_mut_slice(), b"a", b"")?, Ok(()));
         let mut directories = files.directories();
-        assert_eq!(rt; directories.put(buffer.as_mut_slice(), b"b", b"")?, (0, 0));
+        assert_eq!(rt; directories.put(buffer.as_mut_slice(), b"b", b"")?, Ok(()));
         let mut links = directories.links();
-        assert_eq!(rt; links.put(buffer.as_mut_slice(), b"c", b"x")?, (0, 0));
+        assert_eq!(rt; links.put(buffer.as_mut_slice(), b"c", b"x")?, Ok(()));
         check_so_far(&rt, rt.alloc(), &mut links, len, &rows)?;
         for (changed, number, place) in rows {
             let other = filled(rt.alloc(), &[changed], len)?;

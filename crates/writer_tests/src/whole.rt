@@ -1,21 +1,29 @@
-use crate::rows::{check_end, digest, filled, refusal, started};
+use crate::rows::{check_end, digest, filled, started, told};
 use directory::{Kind, find_node, read_directory};
 use nodes::{DirectoryNode, FileNode};
 use std::process::Abort;
 use std::test::Fail;
 
-// What a node is: its tag, then a file's size and mark, a directory's size and 0, or where a link's target begins and ends. The hash must be that of no bytes.
-fn told(rt: &impl Abort, kind: Kind) -> Result<(u8, u64, u64), Fail> {
+// What a node is: a file's size and mark, a directory's size, or where a link's target begins and ends.
+#[derive(Clone, Copy, Debug, PartialEq, Eq)]
+enum Told {
+    File(u64, bool),
+    Directory(u64),
+    Link(usize, usize),
+}
+
+// The hash of a file or a directory must be that of no bytes.
+fn told_of(rt: &impl Abort, kind: Kind) -> Result<Told, Fail> {
     match kind {
         Kind::File(node) => {
             assert!(rt; node.digest.hash == digest(0)?.hash);
-            Ok((0x0A, node.digest.size, u64::from(node.executable)))
+            Ok(Told::File(node.digest.size, node.executable))
         }
         Kind::Directory(node) => {
             assert!(rt; node.digest.hash == digest(0)?.hash);
-            Ok((0x12, node.digest.size, 0))
+            Ok(Told::Directory(node.digest.size))
         }
-        Kind::Link(node) => Ok((0x1A, node.target.start as u64, node.target.end as u64)),
+        Kind::Link(node) => Ok(Told::Link(node.target.start, node.target.end)),
     }
 }
 
@@ -40,19 +48,19 @@ fn whole_directory(rt: HostRuntime) -> Result<(), Fail> {
         let mut buffer = filled(rt.alloc(), &[b""], len)?;
         let mut files = started(buffer.as_slice())?;
         let answer = files.add(buffer.as_mut_slice(), b"a", &a);
-        assert_eq!(rt; refusal(answer), (0, 0));
+        assert_eq!(rt; told(answer), Ok(()));
         let answer = files.add(buffer.as_mut_slice(), b"b", &b);
-        assert_eq!(rt; refusal(answer), (0, 0));
+        assert_eq!(rt; told(answer), Ok(()));
         let mut directories = files.directories();
         let answer = directories.add(buffer.as_mut_slice(), b"A", &c);
-        assert_eq!(rt; refusal(answer), (0, 0));
+        assert_eq!(rt; told(answer), Ok(()));
         let answer = directories.add(buffer.as_mut_slice(), b"\xC3\xA9", &d);
-        assert_eq!(rt; refusal(answer), (0, 0));
+        assert_eq!(rt; told(answer), Ok(()));
         let mut links = directories.links();
         let answer = links.add(buffer.as_mut_slice(), b"aa", b"../b");
-        assert_eq!(rt; refusal(answer), (0, 0));
+        assert_eq!(rt; told(answer), Ok(()));
         let answer = links.add(buffer.as_mut_slice(), b"z", b"/");
-        assert_eq!(rt; refusal(answer), (0, 0));
+        assert_eq!(rt; told(answer), Ok(()));
         assert_eq!(rt;
             buffer.as_slice(),
             filled(rt.alloc(), &[bytes], len)?.as_slice()
@@ -64,16 +72,16 @@ fn whole_directory(rt: HostRuntime) -> Result<(), Fail> {
         assert_eq!(rt; (sections.directories, sections.links), (151, 300));
         let mut place = 0;
         for (start, end, kind, next) in [
-            (4, 5, (0x0A, 0, 0), 73),
-            (77, 78, (0x0A, 300, 1), 151),
-            (155, 156, (0x12, 127, 0), 226),
-            (230, 232, (0x12, 0, 0), 300),
-            (304, 306, (0x1A, 308, 312), 312),
-            (316, 317, (0x1A, 319, 320), 320),
+            (4, 5, Told::File(0, false), 73),
+            (77, 78, Told::File(300, true), 151),
+            (155, 156, Told::Directory(127), 226),
+            (230, 232, Told::Directory(0), 300),
+            (304, 306, Told::Link(308, 312), 312),
+            (316, 317, Told::Link(319, 320), 320),
         ] {
             let found = find_node(buffer.as_slice(), place)?;
             assert_eq!(rt; (found.name.start, found.name.end), (start, end));
-            assert_eq!(rt; told(&rt, found.kind)?, kind);
+            assert_eq!(rt; told_of(&rt, found.kind)?, kind);
             assert_eq!(rt; found.end, next);
             place = next;
         }
