@@ -1,5 +1,5 @@
 -- Text in UTF-8, by the nine patterns of bytes that a character can have.
-use Rattle.std.specs.Prelude.{◌≡◌, ℕ, zero, suc, Bool, true, false, cond, ◌&&◌, List, [], ◌∷◌, take, IsUtf8, nat_le}
+use Rattle.std.specs.Prelude.{◌≡◌, ℕ, zero, suc, Bool, true, false, cond, ◌&&◌, List, [], ◌∷◌, take, Some, None, Option, IsUtf8, nat_le}
 
 -- whether a byte is one of low to high
 abbrev pub range : ℕ → ℕ → ℕ → Bool
@@ -36,10 +36,10 @@ goes_on [] (suc n) low high = false
 goes_on (a ∷ bs) zero low high = goes_on bs (behind a).count (behind a).low (behind a).high
 goes_on (b ∷ bs) (suc n) low high = range low high b && goes_on bs n 0x80 0xBF
 
--- how many bytes the character at the front takes, 0 if there is none
-abbrev pub char_width : List ℕ → ℕ
-char_width [] = 0
-char_width (a ∷ bs) = cond (goes_on (take (behind a).count bs) (behind a).count (behind a).low (behind a).high) (suc (behind a).count) 0
+-- how many bytes the character at the front takes, if there is one
+abbrev pub char_width : List ℕ → Option ℕ
+char_width [] = None
+char_width (a ∷ bs) = cond (goes_on (take (behind a).count bs) (behind a).count (behind a).low (behind a).high) (Some (suc (behind a).count)) None
 
 -- whether bytes are text
 unfoldable pub is_text : List ℕ → Bool

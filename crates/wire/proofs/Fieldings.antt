@@ -1,5 +1,5 @@
 -- A field and its bytes determine each other. Assumes nothing.
-use Rattle.std.proofs.Common.{◌≡◌, ℕ, ◌+◌, ◌^◌, ◌<◌, ◌≤◌, Bool, true, false, cond, eqb, leb, List, [], ◌∷◌, ◌++◌, length, take, drop, Ok, Err, Result, sym, refl, ap, ◌∙◌, subst, append_assoc, arith, length-append}
+use Rattle.std.proofs.Common.{◌≡◌, ℕ, ◌+◌, ◌^◌, ◌<◌, ◌≤◌, Bool, true, false, cond, eqb, leb, List, [], ◌∷◌, ◌++◌, length, take, drop, Some, None, Ok, Err, Option, Result, sym, refl, ap, ◌∙◌, subst, append_assoc, arith, length-append}
 use Rattle.std.proofs.lemmas.List.{drop_at, take_at, take-append-drop, length-take-le}
 use Rattle.std.proofs.lemmas.Bool.{cond-true, le-leb, leb-true, eq-eqb, eqb-true}
 use Rattle.wire.specs.Fields.{Piece, cut, field_at, field_bytes}
@@ -7,7 +7,11 @@ use Rattle.wire.specs.Numbers.{form, front, or_refused, number_at}
 use Rattle.wire.specs.Refusals.{Refusal, next}
 use Rattle.wire.proofs.Finding.{not_ok, same_ok}
 use Rattle.wire.proofs.Forms.{number_is_read_back, form_is_the_only_one}
-use Rattle.wire.proofs.Pieces.{number_found}
+
+-- what an answer of `number_at` says of the number in front
+number_found : (p n k : ℕ) (o : Option (ℕ × ℕ)) → Ok (n, k) ≡ or_refused p o → o ≡ Some (n, k)
+number_found p n k None e = absurd (let z : ◌≡◌ {A = ℕ} 0 1 = cc in omega arith)
+number_found p n k (Some y) e = cc
 
 -- where something was answered, so was each step of it
 pub went_on : {A B : Type 0} (r : Result A Refusal) (f : A → Result B Refusal) (y : B) → next r f ≡ Ok y → (x : A) × (r ≡ Ok x) × (f x ≡ Ok y)

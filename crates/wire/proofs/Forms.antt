@@ -1,6 +1,8 @@
 -- A number and its form determine each other. Assumes nothing.
-use Rattle.std.proofs.Common.{◌≡◌, ℕ, zero, suc, ◌+◌, ◌-◌, ◌*◌, ◌/◌, ◌%◌, ◌^◌, ◌<◌, ◌≤◌, eqb, ltb, List, [], ◌∷◌, ◌++◌, length, drop, Some, None, Option, sym, refl, ap, ◌∙◌, subst, ⊎_elim, arith, length-append}
-use Rattle.std.proofs.lemmas.Nat.{pow_pos, div_below}
+use Rattle.std.proofs.Common.{◌≡◌, ℕ, max, zero, suc, ◌+◌, ◌-◌, ◌*◌, ◌/◌, ◌%◌, ◌^◌, ◌<◌, ◌≤◌, eqb, ltb, List, [], ◌∷◌, ◌++◌, length, drop, Some, None, Option, sym, refl, ap, ◌∙◌, subst, ⊎_elim, arith, length-append}
+use Rattle.std.proofs.lemmas.Nat.{pow-add, pow_pos, div_below}
+use Rattle.std.proofs.Math.Pow.{pow_mono}
+use Rattle.std.proofs.Math.Nat.{le-div_iff_mul-le}
 use Rattle.std.proofs.lemmas.Bool.{cases_lt, cases_eq, eq-eqb, ne_eqb, cond-true, cond-false, cond_both, lt-ltb, le-ltb}
 use Rattle.wire.specs.Numbers.{form_in, form, onto, front_in, front, NumberIsReadBack, FormIsTheOnlyOne}
 use Rattle.wire.proofs.Groups.{pow_group}
@@ -21,6 +23,33 @@ form_in-length (suc m) n = cond_both (ltb n 128) _ _ (λ l. length l ≤ suc m +
 pub form-length : (n : ℕ) → length (form n) ≤ 10
 unfolding form
 form-length n = form_in-length 9 n
+
+pub pow_more : (k : ℕ) → 2 ^ (7 * suc k) ≡ 2 ^ (7 * k) * 128
+pow_more k = let s : suc k ≡ k + 1 = omega arith in ap (λ j. 2 ^ (7 * j)) s ∙ pow_group k
+
+-- the length of a form, by the powers of two that its number lies between
+form_in-groups : (k m n : ℕ) → k ≤ m → 2 ^ (7 * k) ≤ n → n < 2 ^ (7 * (k + 1)) → length (form_in m n) ≡ k + 1
+form_in-groups zero m n room low high = ap length (form_small m n high) ∙ omega arith
+form_in-groups (suc k) zero n room low high = absurd (omega arith)
+form_in-groups (suc k) (suc m) n room low high =
+    let one = pow_more k in
+    let p = pow_group (suc k) in
+    let q = pow_pos (7 * k) in
+    let e : 7 * suc k ≡ 7 * (k + 1) = omega arith in
+    let same = ap (λ j. 2 ^ j) e in
+    let above : 2 ^ (7 * k) ≤ n / 128 = (le-div_iff_mul-le {k = 128} {x = 2 ^ (7 * k)} {y = n} (omega arith)).1 (omega arith) in
+    let below = div_below n 128 (2 ^ (7 * (k + 1))) (omega arith) (omega arith) in
+    ap length (form_large m n (omega arith)) ∙ ap suc (form_in-groups k m (n / 128) (omega arith) above below) ∙ omega arith
+
+pub form-bits : (n l : ℕ) → l < 64 → 2 ^ l ≤ max n 1 → max n 1 < 2 * 2 ^ l → l / 7 + 1 ≡ length (form n)
+unfolding form
+form-bits zero l h low high = ⊎_elim (λ z. omega arith) (λ z. let p = pow_mono {i = 1} {j = l} z in absurd (omega arith)) (cases_lt l 1)
+form-bits (suc n) l h low high =
+    let k = l / 7 in
+    let more : 2 ^ (l + 1) ≡ 2 ^ l * 2 = pow-add 2 l 1 in
+    let lower = pow_mono {i = 7 * k} {j = l} (omega arith) in
+    let upper = pow_mono {i = l + 1} {j = 7 * (k + 1)} (omega arith) in
+    sym (form_in-groups k 9 (suc n) (omega arith) (omega arith) (omega arith))
 
 front_low : (k b : ℕ) (bs : List ℕ) → b < 128 → front_in (suc k) (b ∷ bs) ≡ Some (b, 1)
 front_low k b bs h = cond-true (ltb b 128) _ _ (lt-ltb b 128 h)
@@ -70,9 +99,6 @@ not_some e = let z : ◌≡◌ {A = ℕ} 0 1 = cc in omega arith
 
 same_some : {x y : ℕ × ℕ} → ◌≡◌ {A = Option (ℕ × ℕ)} (Some x) (Some y) → x ≡ y
 same_some e = cc
-
-pub pow_more : (k : ℕ) → 2 ^ (7 * suc k) ≡ 2 ^ (7 * k) * 128
-pow_more k = let s : suc k ≡ k + 1 = omega arith in ap (λ j. 2 ^ (7 * j)) s ∙ pow_group k
 
 formed_low : (k m b : ℕ) (bs : List ℕ) → b < 128 → Formed m (suc k) (b, 1) (b ∷ bs)
 unfolding Formed

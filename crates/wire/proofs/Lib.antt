@@ -3,5 +3,4 @@ pub mod Filling
 pub mod Finding
 pub mod Forms
 pub mod Groups
-pub mod Pieces
 pub mod Placing

@@ -6,23 +6,23 @@ ghost use Rattle.wire.specs.Writing.{write_number};
 #[derive(Clone, Copy, Debug, PartialEq, Eq)]
 pub enum ReadCase {
     // There are more than 16,777,216.
-    Length,
+    Length = 5,
     // A number is not shortest, exceeds nine bytes or is cut off, or a length passes the end of its message.
-    Number,
+    Number = 12,
     // A tag may not stand there, a required field is missing, or a value is written that may not be.
-    Tag,
+    Tag = 13,
     // A hash is no hash text.
-    HashText,
+    HashText = 14,
     // A text is not UTF-8.
-    Utf8,
+    Utf8 = 15,
     // A name breaks its rule.
-    Name,
+    Name = 16,
     // A name is not above the one before it.
-    Order,
+    Order = 17,
     // A name appeared in an earlier section.
-    Repeated,
+    Repeated = 18,
     // A target breaks its rule.
-    Target,
+    Target = 19,
 }
 
 // Why bytes are refused, and the byte where.
@@ -37,17 +37,7 @@ impl ReadCase {
     pub fn number(self) -> u8
         ensures { result ≡ number_of self }
     {
-        match self {
-            ReadCase::Length => 5,
-            ReadCase::Number => 12,
-            ReadCase::Tag => 13,
-            ReadCase::HashText => 14,
-            ReadCase::Utf8 => 15,
-            ReadCase::Name => 16,
-            ReadCase::Order => 17,
-            ReadCase::Repeated => 18,
-            ReadCase::Target => 19,
-        }
+        self as u8
     }
 }
 
@@ -55,7 +45,7 @@ impl ReadCase {
 #[derive(Clone, Copy, Debug, PartialEq, Eq)]
 pub enum WriteFault {
     // They do not fit the buffer.
-    NoRoom,
+    NoRoom = 8,
 }
 
 impl WriteFault {
@@ -63,8 +53,6 @@ impl WriteFault {
     pub fn number(self) -> u8
         ensures { result ≡ write_number self }
     {
-        match self {
-            WriteFault::NoRoom => 8,
-        }
+        self as u8
     }
 }

@@ -13,11 +13,12 @@ pub struct Span {
 }
 
 // The field whose tag stands at a place of a message: where its text is.
+// `message` and `start` are no struct: each call has another start, so it would be made anew for each.
 pub fn read_field(message: &[u8], start: usize, tag: u8) -> Result<Span, ReadFault>
     ensures value { reported result ≡ spanned (field_at tag start (drop start message.now)) }
     ensures within { IfOk result (Inside start message.now) }
 {
-    if start >= message.len() || message[start] != tag {
+    if message.get(start) != Some(&tag) {
         return Err(ReadFault {
             case: ReadCase::Tag,
             place: start,

@@ -9,34 +9,30 @@ pub fn read_number(message: &[u8], start: usize) -> Result<(u64, usize), ReadFau
     ensures value { reported result ≡ number_at start (drop start message.now) }
     ensures within { IfOk result (λ x. start + x.1 ≤ length message.now) }
 {
-    if start < message.len() {
-        if let Some(number) = number_in_front(&message[start..]) {
-            return Ok(number);
-        }
-    }
-    Err(ReadFault {
-        case: ReadCase::Number,
-        place: start,
-    })
+    message
+        .get(start..)
+        .and_then(number_in_front)
+        .ok_or(ReadFault {
+            case: ReadCase::Number,
+            place: start,
+        })
 }
 
 // The number at the front, and how many bytes it took.
 fn number_in_front(bytes: &[u8]) -> Option<(u64, usize)>
     ensures { result ≡ front bytes.now }
 {
-    let mut value: u64 = 0;
-    for i in 0..9 {
-        if i >= bytes.len() {
-            return None;
+    let mut value = 0;
+    let few = &bytes[..bytes.len().min(9)];
+    for (i, byte) in few.iter().enumerate() {
+        value |= u64::from(*byte & 0x7F) << (7 * i);
+        if *byte < 0x80 {
+            return if *byte == 0 && i > 0 {
+                None
+            } else {
+                Some((value, i + 1))
+            };
         }
-        let byte = bytes[i];
-        if byte < 0x80 {
-            if byte == 0 && i > 0 {
-                return None;
-            }
-            return Some((value | (u64::from(byte) << (7 * i)), i + 1));
-        }
-        value |= u64::from(byte & 0x7F) << (7 * i);
     }
     None
 }

@@ -1,55 +1,53 @@
-ghost use Rattle.std.specs.Prelude.{◌≡◌, ℕ, ◌+◌, ◌≤◌, length, take};
+ghost use Rattle.std.specs.Prelude.{MatchResult, length, ℕ, ◌+◌, ◌<◌, ◌≡◌, ◌≤◌};
 ghost use Rattle.wire.specs.Fields.{field_bytes};
 ghost use Rattle.wire.specs.Numbers.{form};
-ghost use Rattle.wire.specs.Writing.{told, ending, after};
+ghost use Rattle.wire.specs.Writing.{after, ending, told, write_number};
 
 use crate::fault::WriteFault;
 
+// The place behind so many bytes from a place of the buffer on, where there is room for them.
+fn end_of(buffer: &[u8], start: usize, len: usize) -> Result<usize, WriteFault>
+    ensures { MatchResult result (λ end. (end ≡ start + len) × (end ≤ length buffer.now)) (λ f. (write_number f ≡ 8) × (length buffer.now < start + len)) }
+{
+    match start.checked_add(len) {
+        Some(end) if end <= buffer.len() => Ok(end),
+        _ => Err(WriteFault::NoRoom),
+    }
+}
+
 // Writes bytes from a place of the buffer on, and answers the place behind them.
+// `buffer` and `start` are no struct: each call has another start, so it would be made anew for each.
 pub fn write_bytes(buffer: &mut [u8], start: usize, bytes: &[u8]) -> Result<usize, WriteFault>
     ensures answer { told result ≡ ending buffer.old start bytes.now }
     ensures buffer { buffer.new ≡ after buffer.old start bytes.now }
 {
-    let room = buffer.len();
-    if room < bytes.len() || room - bytes.len() < start {
-        return Err(WriteFault::NoRoom);
-    }
-    let end = start + bytes.len();
+    let end = end_of(buffer, start, bytes.len())?;
     buffer[start..end].copy_from_slice(bytes);
     Ok(end)
 }
 
-// The bytes of a number's form, of which the first `len` count.
-#[derive(Clone, Copy)]
-struct NumberForm {
-    bytes: [u8; 10],
-    len: usize,
-}
-
-// The form of a number.
-fn number_form(value: u64) -> NumberForm
-    ensures bytes { take result.len result.bytes ≡ form value }
-    ensures size { result.len ≡ length (form value) }
-    ensures short { result.len ≤ 10 }
-{
-    let mut bytes = [0; 10];
-    let mut rest = value;
-    let mut i = 0;
-    while rest >= 0x80 {
-        bytes[i] = (rest & 0x7F) as u8 | 0x80;
-        rest >>= 7;
-        i += 1;
-    }
-    bytes[i] = rest as u8;
-    NumberForm { bytes, len: i + 1 }
-}
-
-// How many bytes a number takes.
+// How many bytes a number takes, of seven bits each.
 pub fn number_length(value: u64) -> usize
     ensures value { result ≡ length (form value) }
     ensures short { result ≤ 10 }
 {
-    number_form(value).len
+    value.max(1).ilog2() as usize / 7 + 1
+}
+
+// Fills a part that is as long as a number's form with that form.
+fn fill_number(part: &mut [u8], value: u64)
+    requires { length part.old ≡ length (form value) }
+    ensures { part.new ≡ form value }
+{
+    let mut rest = value;
+    for byte in part.iter_mut() {
+        *byte = if rest < 0x80 {
+            rest as u8
+        } else {
+            (rest & 0x7F) as u8 | 0x80
+        };
+        rest >>= 7;
+    }
 }
 
 // Writes a number from a place of the buffer on, and answers the place behind it.
@@ -57,8 +55,9 @@ pub fn write_number(buffer: &mut [u8], start: usize, value: u64) -> Result<usize
     ensures answer { told result ≡ ending buffer.old start (form value) }
     ensures buffer { buffer.new ≡ after buffer.old start (form value) }
 {
-    let NumberForm { bytes, len } = number_form(value);
-    write_bytes(buffer, start, &bytes[..len])
+    let end = end_of(buffer, start, number_length(value))?;
+    fill_number(&mut buffer[start..end], value);
+    Ok(end)
 }
 
 // How many bytes a field takes, whatever its tag.
@@ -79,11 +78,8 @@ pub fn write_field(
     ensures answer { told result ≡ ending buffer.old start (field_bytes tag text.now) }
     ensures buffer { buffer.new ≡ after buffer.old start (field_bytes tag text.now) }
 {
-    let room = buffer.len();
     let taken = field_length(text);
-    if room < taken || room - taken < start {
-        return Err(WriteFault::NoRoom);
-    }
+    end_of(buffer, start, taken)?;
     buffer[start] = tag;
     let behind = write_number(buffer, start + 1, text.len() as u64)?;
     write_bytes(buffer, behind, text)

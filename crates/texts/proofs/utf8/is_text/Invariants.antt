@@ -1,9 +1,9 @@
-use Rattle.std.proofs.Common.{◌≡◌, ◌-◌, length, drop}
+use Rattle.std.proofs.Common.{◌≡◌, length}
 use Rattle.texts.specs.Utf8.{is_text}
 use Rattle.texts.proofs.utf8.is_text.Given as goal
 
-abbrev pub invariant-loop-at : goal.invariant-loop-at
-invariant-loop-at l = is_text l.text ≡ is_text (drop l.at l.text)
+abbrev pub invariant-loop-width : goal.invariant-loop-width
+invariant-loop-width l = is_text l.text ≡ is_text l.rest
 
-abbrev pub decreases-loop-at : goal.decreases-loop-at
-decreases-loop-at l = length l.text - l.at
+abbrev pub decreases-loop-width : goal.decreases-loop-width
+decreases-loop-width l = length l.rest
