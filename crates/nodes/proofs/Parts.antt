@@ -1,8 +1,7 @@
 -- Parts written into a buffer one behind the other, where there is room for all. Assumes nothing.
-use Rattle.std.proofs.Common.{◌≡◌, ℕ, ◌+◌, ◌<◌, ◌≤◌, true, false, leb, List, [], ◌∷◌, ◌++◌, length, set, Ok, Err, sym, refl, ap, ◌∙◌, arith, length-append}
-use Rattle.std.proofs.lemmas.Bool.{leb-true, leb-false}
+use Rattle.std.proofs.Common.{◌≡◌, ℕ, ◌+◌, ◌<◌, ◌≤◌, List, [], ◌∷◌, ◌++◌, length, set, Ok, Err, sym, refl, ap, ◌∙◌, arith, length-append}
 use Rattle.wire.specs.Writing.{written, ending, after}
-use Rattle.wire.proofs.Placing.{fits, no_room, set-written, then_fits}
+use Rattle.wire.proofs.Placing.{fits, set-written, then_fits}
 
 -- x is written from s on, and what comes next stands at `at`
 pub record Stands (e : List ℕ) (s : ℕ) (x e₁ : List ℕ) (at : ℕ) : Type 0 where
@@ -30,13 +29,3 @@ module _ (e : List ℕ) (s : ℕ) (x e₁ : List ℕ) (at : ℕ) (so_far : Stand
       let l = length-append x y in
       let p = fits e s (x ++ y) (omega arith) in
       (goes.0 ∙ sym p.0 ∙ ap (ending e s) is, goes.1 ∙ sym p.1 ∙ ap (after e s) is)
-
--- what a test of the room says
-pub there_is_room : (e : List ℕ) (s n : ℕ) → true ≡ leb (s + n) (length e) → s + n ≤ length e
-there_is_room e s n h = leb-true _ _ (sym h)
-
-pub no_room_for : (e : List ℕ) (s n : ℕ) (whole : List ℕ) → n ≡ length whole → false ≡ leb (s + n) (length e) → (Err 8 ≡ ending e s whole) × (e ≡ after e s whole)
-no_room_for e s n whole is h =
-    let short = leb-false (s + n) (length e) (sym h) in
-    let p = no_room e s whole (omega arith) in
-    (sym p.0, sym p.1)

@@ -6,9 +6,10 @@ ghost use Rattle.nodes.specs.Digests.{digest_bytes};
 ghost use Rattle.nodes.specs.Kinds.{SoundDigest};
 
 use crate::ending::{last_number_length, write_last_number};
-use crate::room::has_room;
 use digest::Digest;
-use wire::{WriteFault, field_length, number_length, write_bytes, write_field, write_number};
+use wire::{
+    WriteFault, end_of, field_length, number_length, write_bytes, write_field, write_number,
+};
 
 // How many bytes the message of a digest takes.
 fn digest_length(digest: &Digest) -> usize
@@ -38,9 +39,7 @@ pub fn write_digest_field(
     ensures answer { told result ≡ ending buffer.old start (field_bytes tag (digest_bytes (value_of digest.now)) ++ more.now) }
     ensures buffer { buffer.new ≡ after buffer.old start (field_bytes tag (digest_bytes (value_of digest.now)) ++ more.now) }
 {
-    if !has_room(buffer, start, digest_field_length(digest) + more.len()) {
-        return Err(WriteFault::NoRoom);
-    }
+    end_of(buffer, start, digest_field_length(digest) + more.len())?;
     buffer[start] = tag;
     let hash_at = write_number(buffer, start + 1, digest_length(digest) as u64)?;
     let size_at = write_field(buffer, hash_at, 0x0A, &digest.hash.to_text())?;

@@ -3,9 +3,8 @@ ghost use Rattle.wire.specs.Refusals.{reported};
 ghost use Rattle.wire.specs.Writing.{told, ending, after};
 ghost use Rattle.nodes.specs.Endings.{ended, last_number, last_bytes};
 
-use crate::room::has_room;
 use wire::{
-    ReadCase, ReadFault, WriteFault, number_length, read_number, write_bytes, write_number,
+    ReadCase, ReadFault, WriteFault, end_of, number_length, read_number, write_bytes, write_number,
 };
 
 // Sees that a message ends at a place.
@@ -70,9 +69,7 @@ pub fn write_last_number(
     if number == 0 {
         return write_bytes(buffer, start, &[]);
     }
-    if !has_room(buffer, start, last_number_length(number)) {
-        return Err(WriteFault::NoRoom);
-    }
+    end_of(buffer, start, last_number_length(number))?;
     buffer[start] = tag;
     write_number(buffer, start + 1, number)
 }

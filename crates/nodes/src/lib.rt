@@ -10,7 +10,6 @@ mod kind;
 mod link;
 mod name;
 mod node;
-mod room;
 
 pub use directory::DirectoryNode;
 pub use file::FileNode;

@@ -1,10 +1,9 @@
 ghost use Rattle.std.specs.Prelude.{◌≡◌, ◌-◌, ◌^◌, length, min};
-ghost use Rattle.wire.specs.Writing.{told, ending, after, has_room as there_is_room};
+ghost use Rattle.wire.specs.Writing.{told, ending, after, has_room};
 ghost use Rattle.nodes.specs.Nodes.{message_of, bytes_of};
 
 use crate::kind::NodeKind;
-use crate::room::has_room;
-use wire::{WriteFault, field_length, number_length, write_field, write_number};
+use wire::{WriteFault, end_of, field_length, number_length, write_field, write_number};
 
 // A node that is to be written: its name, and what follows it, whose texts lie in `text`.
 #[derive(Drop)]
@@ -24,11 +23,11 @@ impl<'a, K: NodeKind> NewNode<'a, K> {
 
     // Whether it fits the buffer from a place on.
     pub fn fits(&self, buffer: &[u8], start: usize) -> bool
-        ensures { result ≡ there_is_room buffer.now start (bytes_of K.NodeKind.code K.NodeKind.writes K.NodeKind.rest_in self.now) }
+        ensures { result ≡ has_room buffer.now start (bytes_of K.NodeKind.code K.NodeKind.writes K.NodeKind.rest_in self.now) }
     {
         let long = self.message_length();
         let head = 1 + number_length(long as u64);
-        has_room(buffer, start, long.saturating_add(head))
+        end_of(buffer, start, long.saturating_add(head)).is_ok()
     }
 
     // Writes it from a place of the buffer on, and answers the place behind it.

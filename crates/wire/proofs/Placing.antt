@@ -1,8 +1,8 @@
 -- Parts written into a buffer, one behind the other. Assumes nothing.
-use Rattle.std.proofs.Common.{◌≡◌, ℕ, suc, ◌+◌, ◌<◌, ◌≤◌, List, [], ◌∷◌, ◌++◌, length, take, drop, set, Ok, Err, sym, ap, ◌∙◌, append_assoc, arith, length-append, length-drop}
+use Rattle.std.proofs.Common.{◌≡◌, ℕ, suc, Bool, true, false, cond, leb, Result, refl, ◌+◌, ◌<◌, ◌≤◌, List, [], ◌∷◌, ◌++◌, length, take, drop, set, Ok, Err, sym, ap, ◌∙◌, append_assoc, arith, length-append, length-drop}
 use Rattle.std.proofs.lemmas.List.{length-take-le, take_at, drop_at, drop-drop, set_split}
-use Rattle.std.proofs.lemmas.Bool.{cond-true, cond-false, le-leb, lt-leb}
-use Rattle.wire.specs.Writing.{has_room, written, ending, after}
+use Rattle.std.proofs.lemmas.Bool.{cond-true, cond-false, le-leb, lt-leb, leb-true, leb-false}
+use Rattle.wire.specs.Writing.{behind, has_room, written, ending, after}
 
 -- what a writer answers and leaves, of x at s in e
 module _ (e : List ℕ) (s : ℕ) (x : List ℕ) where
@@ -11,6 +11,22 @@ module _ (e : List ℕ) (s : ℕ) (x : List ℕ) where
 
   pub no_room : length e < s + length x → (ending e s x ≡ Err 8) × (after e s x ≡ e)
   no_room h = (cond-false (has_room e s x) _ _ (lt-leb _ _ h), cond-false (has_room e s x) _ _ (lt-leb _ _ h))
+
+-- what the place behind tells of the room
+module _ (e : List ℕ) (s n : ℕ) where
+  pub there_is_room : {x : ℕ} → Ok x ≡ behind e s n → s + n ≤ length e
+  there_is_room {x} h = go (leb (s + n) (length e)) refl h
+    where
+      go : (b : Bool) → leb (s + n) (length e) ≡ b → ◌≡◌ {A = Result ℕ ℕ} (Ok x) (cond b (Ok (s + n)) (Err 8)) → s + n ≤ length e
+      go true t h = leb-true (s + n) (length e) t
+      go false t h = let z : ◌≡◌ {A = ℕ} 0 1 = cc in absurd (omega arith)
+
+  pub there_is_none : {k : ℕ} → Err k ≡ behind e s n → length e < s + n
+  there_is_none {k} h = go (leb (s + n) (length e)) refl h
+    where
+      go : (b : Bool) → leb (s + n) (length e) ≡ b → ◌≡◌ {A = Result ℕ ℕ} (Err k) (cond b (Ok (s + n)) (Err 8)) → length e < s + n
+      go true t h = let z : ◌≡◌ {A = ℕ} 0 1 = cc in absurd (omega arith)
+      go false t h = leb-false (s + n) (length e) t
 
 pub set-written : (e : List ℕ) (s b : ℕ) → s < length e → set e s b ≡ written e s (b ∷ [])
 set-written e s b h = let n : suc s ≡ s + 1 = omega arith in set_split e s b h ∙ ap (λ n. take s e ++ (b ∷ drop n e)) n

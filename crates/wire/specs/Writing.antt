@@ -15,6 +15,10 @@ told (Err f) = Err (write_number f)
 abbrev pub has_room : List ℕ → ℕ → List ℕ → Bool
 has_room buffer at part = nat_le (at + length part) (length buffer)
 
+-- the place behind n bytes from the place `at` on, where the buffer has room for them
+abbrev pub behind : List ℕ → ℕ → ℕ → Result ℕ ℕ
+behind buffer at n = cond (nat_le (at + n) (length buffer)) (Ok (at + n)) (Err 8)
+
 -- the buffer once `part` is written from the place `at` on
 abbrev pub written : List ℕ → ℕ → List ℕ → List ℕ
 written buffer at part = take at buffer ++ (part ++ drop (at + length part) buffer)

@@ -9,4 +9,4 @@ mod write;
 pub use fault::{ReadCase, ReadFault, WriteFault};
 pub use field::{Span, read_field};
 pub use number::{numbers_have_one_form, read_number};
-pub use write::{field_length, number_length, write_bytes, write_field, write_number};
+pub use write::{end_of, field_length, number_length, write_bytes, write_field, write_number};

@@ -1,13 +1,13 @@
-ghost use Rattle.std.specs.Prelude.{MatchResult, length, ℕ, ◌+◌, ◌<◌, ◌≡◌, ◌≤◌};
+ghost use Rattle.std.specs.Prelude.{length, ℕ, ◌+◌, ◌≡◌, ◌≤◌};
 ghost use Rattle.wire.specs.Fields.{field_bytes};
 ghost use Rattle.wire.specs.Numbers.{form};
-ghost use Rattle.wire.specs.Writing.{after, ending, told, write_number};
+ghost use Rattle.wire.specs.Writing.{after, behind, ending, told};
 
 use crate::fault::WriteFault;
 
 // The place behind so many bytes from a place of the buffer on, where there is room for them.
-fn end_of(buffer: &[u8], start: usize, len: usize) -> Result<usize, WriteFault>
-    ensures { MatchResult result (λ end. (end ≡ start + len) × (end ≤ length buffer.now)) (λ f. (write_number f ≡ 8) × (length buffer.now < start + len)) }
+pub fn end_of(buffer: &[u8], start: usize, len: usize) -> Result<usize, WriteFault>
+    ensures { told result ≡ behind buffer.now start len }
 {
     match start.checked_add(len) {
         Some(end) if end <= buffer.len() => Ok(end),

@@ -2,8 +2,8 @@ use Rattle.std.proofs.Common.{◌≡◌, ℕ, ◌+◌, ◌≤◌, List, [], ◌�
 use Rattle.std.proofs.lemmas.Result.{err_from_is_err_and}
 use Rattle.wire.specs.Fields.{field_bytes}
 use Rattle.wire.specs.Numbers.{form}
-use Rattle.wire.specs.Writing.{write_number, told, written, ending, after}
-use Rattle.wire.proofs.Placing.{fits, no_room, set-written, then_fits}
+use Rattle.wire.specs.Writing.{write_number, told, behind, written, ending, after}
+use Rattle.wire.proofs.Placing.{fits, no_room, there_is_room, there_is_none, set-written, then_fits}
 use Rattle.wire.proofs.write.write_field.Goals as goal
 
 -- the text's length, behind the tag
@@ -20,22 +20,21 @@ module _ (e : List ℕ) (s t : ℕ) (text : List ℕ) (room : s + length (field_
 pub returns-in_err-end_of-clause-answer : goal.returns-in_err-end_of-clause-answer
 returns-in_err-end_of-clause-answer c =
     let p = err_from_is_err_and c.from_residual.result c.from_residual.ensures.1 in
-    let long = c.field_length-taken.ensures.value c.args.tag in
-    let lost = no_room c.args.buffer.now c.args.start (field_bytes c.args.tag c.args.text.now) (omega (arith, c.in_err-end_of.ensures.1)) in
-    ap told p.1 ∙ ap (λ f. Err (write_number f)) p.2 ∙ ap Err c.in_err-end_of.ensures.0 ∙ sym lost.0
+    ap told p.1 ∙ ap (λ f. Err (write_number f)) p.2 ∙ c.in_err-end_of.ensures ∙ ap (behind c.args.buffer.now c.args.start) (c.field_length-taken.ensures.value c.args.tag)
 
 pub returns-in_err-end_of-clause-buffer : goal.returns-in_err-end_of-clause-buffer
 returns-in_err-end_of-clause-buffer c =
     let long = c.field_length-taken.ensures.value c.args.tag in
-    sym (no_room c.args.buffer.now c.args.start (field_bytes c.args.tag c.args.text.now) (omega (arith, c.in_err-end_of.ensures.1))).1
+    let none = there_is_none _ _ _ c.in_err-end_of.ensures in
+    sym (no_room c.args.buffer.now c.args.start (field_bytes c.args.tag c.args.text.now) (omega arith)).1
 
 pub bounds-buffer-start : goal.bounds-buffer-start
-bounds-buffer-start c = omega (arith, c.field_length-taken.ensures.value 0, c.in_ok-end_of.ensures.0)
+bounds-buffer-start c = omega (arith, c.field_length-taken.ensures.value 0, there_is_room _ _ _ c.in_ok-end_of.ensures)
 
 pub returns-in_err-behind-clause-buffer : goal.returns-in_err-behind-clause-buffer
 returns-in_err-behind-clause-buffer c =
     let room = c.field_length-taken.ensures.value c.args.tag in
-    absurd (not_refused c.args.buffer.now c.args.start c.args.tag c.args.text.now (omega (arith, c.in_ok-end_of.ensures.0)) c.in_err-behind.ensures.answer)
+    absurd (not_refused c.args.buffer.now c.args.start c.args.tag c.args.text.now (omega (arith, there_is_room _ _ _ c.in_ok-end_of.ensures)) c.in_err-behind.ensures.answer)
 
 pub returns-clause-buffer : goal.returns-clause-buffer
 returns-clause-buffer c =
@@ -44,7 +43,7 @@ returns-clause-buffer c =
     let t = c.args.tag in
     let text = c.args.text.now in
     let number = form (length text) in
-    let room : s + length (field_bytes t text) ≤ length e = omega (arith, c.field_length-taken.ensures.value t, c.in_ok-end_of.ensures.0) in
+    let room : s + length (field_bytes t text) ≤ length e = omega (arith, c.field_length-taken.ensures.value t, there_is_room _ _ _ c.in_ok-end_of.ensures) in
     let first = c.in_ok-behind.ensures in
     let p = head e s t text room in
     let here : c.in_ok-behind.behind ≡ s + length (t ∷ number) = cc (p.0, first.answer) in

@@ -1,10 +1,10 @@
-use Rattle.std.proofs.Common.{◌≡◌, ℕ, ◌+◌, ◌-◌, ◌^◌, ◌<◌, ◌≤◌, true, List, [], ◌++◌, length, min, ap, ◌∙◌, arith, length-append}
+use Rattle.std.proofs.Common.{◌≡◌, ℕ, ◌+◌, ◌-◌, ◌^◌, ◌<◌, ◌≤◌, true, List, [], ◌++◌, length, min, sym, ap, ◌∙◌, arith, length-append}
 use Rattle.wire.specs.Fields.{field_bytes}
 use Rattle.wire.specs.Numbers.{form}
 use Rattle.wire.specs.Writing.{after, has_room}
 use Rattle.nodes.specs.Nodes.{node_bytes}
 use Rattle.nodes.proofs.Composing.{field_long, field_written}
-use Rattle.nodes.proofs.Parts.{there_is_room}
+use Rattle.std.proofs.lemmas.Bool.{leb-true}
 use Rattle.nodes.proofs.node.NewNode.write.Goals as goal
 
 -- a node that fits has a message whose length can be told, and room part by part
@@ -15,7 +15,7 @@ record Fits (e name w : List ℕ) (s tag long : ℕ) : Type 0 where
 fitting : (e name w : List ℕ) (s tag long : ℕ) → length e < 2 ^ 64 - 1 → true ≡ has_room e s (node_bytes tag name w) → long ≡ min (length (field_bytes 0x0A name ++ w)) (2 ^ 64 - 1) → Fits e name w s tag long
 fitting e name w s tag long below fits is =
     let m = field_bytes 0x0A name ++ w in
-    let room = there_is_room e s (length (node_bytes tag name w)) fits in
+    let room = leb-true (s + length (node_bytes tag name w)) (length e) (sym fits) in
     let f = length-append (form (length m)) m in
     let told : long ≡ length m = omega arith in
     record { told = told; room = omega (arith, field_long tag name w long told) }
