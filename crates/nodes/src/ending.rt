@@ -20,7 +20,7 @@ pub fn read_end(message: &[u8], at: usize) -> Result<(), ReadFault>
     Ok(())
 }
 
-// The last field of a message, a number from 1 to `most` under a tag, or 0 where the message ends.
+// The last field of a message, a number from 1 to `most` under a tag, or 0 where the message ends: in the format that is the number's value, and no `None`.
 pub fn read_last_number(message: &[u8], start: usize, tag: u8, most: u64) -> Result<u64, ReadFault>
     ensures value { reported result ≡ last_number tag most start (drop start message.now) }
     ensures bound { IfOk result (λ n. n ≤ most) }

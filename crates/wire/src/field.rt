@@ -5,7 +5,7 @@ ghost use Rattle.wire.specs.Refusals.{reported};
 use crate::fault::{ReadCase, ReadFault};
 use crate::number::read_number;
 
-// Where a part of a message begins and ends.
+// Where a part of a message begins and ends. A `Range` is not `Copy`.
 #[derive(Clone, Copy, Debug, PartialEq, Eq)]
 pub struct Span {
     pub start: usize,

@@ -2,6 +2,8 @@ use crate::mark::Mark;
 
 pub mod calls;
 
+// Three types, and not one with a parameter, since what each takes and where it leads differ.
+
 // A writer in its files part.
 #[derive(Drop)]
 pub struct Files {
