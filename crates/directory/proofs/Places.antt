@@ -1,12 +1,13 @@
 -- A node that was found at a place of a message. Assumes nothing.
-use Rattle.std.proofs.Common.{◌≡◌, ℕ, ◌+◌, ◌-◌, ◌≤◌, List, length, get_or, take, drop, Some, None, Ok, Err, Result, sym, refl, ap, ◌∙◌, ⊎_elim, arith, length-take}
+use Rattle.std.proofs.Common.{◌≡◌, ℕ, ◌+◌, ◌-◌, ◌≤◌, List, length, get_or, take, drop, Some, None, Ok, Err, Result, IfOk, sym, refl, ap, ◌∙◌, subst, ⊎_elim, arith, length-take}
 use Rattle.std.proofs.lemmas.List.{drop_all, drop-take, take-take, get_or-drop}
 use Rattle.std.proofs.lemmas.Bool.{cases_lt}
 use Rattle.std.specs.Result.{result_ok}
 use Rattle.wire.specs.declared.field.Span.{Span}
 use Rattle.wire.specs.Fields.{Piece, field_at, spanned}
 use Rattle.wire.specs.Numbers.{form}
-use Rattle.wire.specs.Refusals.{Refusal, next}
+use Rattle.wire.specs.declared.fault.ReadFault.{ReadFault}
+use Rattle.wire.specs.Refusals.{Refusal, refusal_of, reported, next}
 use Rattle.wire.proofs.Fieldings.{fielded, field_back}
 use Rattle.wire.proofs.Finding.{Found, not_ok}
 use Rattle.nodes.specs.Kinds.{part}
@@ -23,6 +24,15 @@ no_field t p q bs e n = go (field_at t q bs) refl
     go : (r : Result Piece Refusal) → field_at t q bs ≡ r → None ≡ result_ok r
     go (Err d) is = refl
     go (Ok x) is = absurd (not_ok (n ∙ ap spanned (elsewhere t q p bs x is)))
+
+-- what a reader of a span answered, as the span alone or nothing
+pub read_none : (r : Result Span ReadFault) (x : Result Span Refusal) → None ≡ result_ok r → reported r ≡ x → (e : Refusal) × (Err e ≡ x)
+read_none (Ok s) x n h = absurd (cc)
+read_none (Err f) x n h = (refusal_of f, h)
+
+pub read_some : (r : Result Span ReadFault) (x : Result Span Refusal) (s : Span) (P : Span → Type 0) → Some s ≡ result_ok r → reported r ≡ x → IfOk r P → (Ok s ≡ x) × P s
+read_some (Ok t) x s P n h w = let same : t ≡ s = cc in (ap Ok (sym same) ∙ h, subst P same w)
+read_some (Err f) x s P n h w = absurd (cc)
 
 stopped : {A B : Type 0} (r : Result A Refusal) (f : A → Result B Refusal) → None ≡ result_ok r → None ≡ result_ok (next r f)
 stopped (Err e) f n = refl
@@ -43,7 +53,7 @@ behind-cut m e p =
     (cases_lt e p)
 
 -- a part of it is one of the whole
-cut-part : (m : List ℕ) (e : ℕ) (s : Span) → s.end ≤ e → part (take e m) s ≡ part m s
+pub cut-part : (m : List ℕ) (e : ℕ) (s : Span) → s.end ≤ e → part (take e m) s ≡ part m s
 cut-part m e s h = ap (take (s.end - s.start)) (behind-cut m e s.start) ∙ take-take (s.end - s.start) (e - s.start) (drop s.start m) (omega arith)
 
 module _ (p : ℕ) (m : List ℕ) where

@@ -5,8 +5,7 @@ use Rattle.std.proofs.lemmas.Bool.{cases_Bool, cases_lt}
 use Rattle.std.specs.Result.{result_ok}
 use Rattle.wire.specs.declared.field.Span.{Span}
 use Rattle.nodes.specs.Kinds.{part}
-use Rattle.directory.specs.declared.region.NodePlace.{NodePlace}
-use Rattle.directory.specs.Regions.{front_in, front_of, names_up_to, names_in, past, first, met}
+use Rattle.directory.specs.Regions.{front_of, names_up_to, names_in, past, first, met}
 use Rattle.std.specs.Str.{bytes_eq as same}
 use Rattle.directory.proofs.Fronts.{none_there, one_there}
 use Rattle.directory.proofs.Orders.{same_decides}
@@ -28,9 +27,8 @@ module _ (m : List ℕ) (e p : ℕ) where
   pub none_here : None ≡ result_ok (front_of (drop p (take e m))) → names_up_to (length m) (drop p (take e m)) ≡ []
   none_here = none_there (length m) (drop p (take e m)) few
 
-  pub one_here : (n : NodePlace) → Some (front_in (take e m) n) ≡ result_ok (front_of (drop p (take e m)))
-      → names_up_to (length m) (drop p (take e m)) ≡ part (take e m) n.name ∷ names_up_to (length m) (drop n.end (take e m))
-  one_here n = one_there (length m) (drop p (take e m)) (front_in (take e m) n) few
+  pub one_here : (name rest : List ℕ) → Some (record { name = name; rest = rest }) ≡ result_ok (front_of (drop p (take e m))) → names_up_to (length m) (drop p (take e m)) ≡ name ∷ names_up_to (length m) rest
+  one_here name rest = one_there (length m) (drop p (take e m)) (record { name = name; rest = rest }) few
 
 -- what decides whether two names are equal is whether they are the same
 pub decided : (a b : List ℕ) (r : Bool) → Decides r (a ≡ b) → r ≡ same b a

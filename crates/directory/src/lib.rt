@@ -1,6 +1,7 @@
 // Directories: a reader that accepts the canonical ones alone.
 #![tactic(auto)]
 
+mod cursor;
 mod find;
 mod part;
 mod reader;
