@@ -18,7 +18,7 @@ use Rattle.directory.specs.Canonical.{GoodSection, section_bytes}
 use Rattle.directory.specs.Directories.{Reading, files_in, with_files, directories_in, with_directories, links_in, with_links, up_to, closed, part_of, so_far_of, answered}
 use Rattle.directory.specs.Regions.{names_in, names_up_to, Ascending}
 use Rattle.directory.specs.Sections.{Node, Section, names, nobody, section_at}
-use Rattle.directory.specs.Steps.{earlier_names, Sorted, ends, end_of, reached_of}
+use Rattle.directory.specs.Steps.{files_at, directories_at, earlier_names, Sorted, ends, end_of, reached_of}
 use Rattle.directory.proofs.Fronts.{names_within}
 use Rattle.directory.proofs.OneSection.{accepted}
 
@@ -80,9 +80,6 @@ section_read (Err d) with e h = absurd (not_ok (sym h))
 abbrev pub none : Sections
 none = record { directories = 0; links = 0 }
 
-pub none_sorted : (m : List ℕ) → Sorted m none
-none_sorted m = let h = subst (Ascending []) (sym (nowhere m)) tt in (h, h)
-
 none-names : (m : List ℕ) → earlier_names m none ≡ []
 none-names m i = nowhere m i ++ nowhere m i
 
@@ -126,9 +123,9 @@ module _ (m : List ℕ) (small : length m ≤ 16777216) where
 
   -- the files and directories that were read, as regions of the message
   pub record Regions (q : Reading) : Type 0 where
-    pub files : names_in m (record { start = 0; end = q.sections.directories }) ≡ names q.nodes.files
+    pub files : names_in m (files_at q.sections) ≡ names q.nodes.files
     pub files_ascend : Ascending [] (names q.nodes.files)
-    pub directories : names_in m (record { start = q.sections.directories; end = q.sections.links }) ≡ names q.nodes.directories
+    pub directories : names_in m (directories_at q.sections) ≡ names q.nodes.directories
     pub directories_ascend : Ascending [] (names q.nodes.directories)
 
   empty_at : (p : ℕ) → names_in m (record { start = p; end = p }) ≡ []
@@ -228,9 +225,6 @@ module _ (m : List ℕ) (small : length m ≤ 16777216) where
   files_first : ends first ≡ ends (section_at 0x0A file_reads [] 0 m)
   files_first = ap (λ l. ends (section_at 0x0A file_reads l 0 m)) (none-names m)
 
-  pub files_refused : (e : Refusal) → Err e ≡ ends first → files_in m ≡ Err e
-  files_refused e h = section_refused (section_at 0x0A file_reads [] 0 m) with_files e (h ∙ files_first)
-
   pub files_read : (e : SectionEnd) → Ok e ≡ ends first → At FilesPart (record { sections = record { directories = e.end; links = e.end }; latest = e })
   files_read e h =
       let s = section_read (section_at 0x0A file_reads [] 0 m) with_files e (h ∙ files_first) in
@@ -280,18 +274,8 @@ module _ (m : List ℕ) (small : length m ≤ 16777216) where
           reached = λ i. record { sections = record { directories = (a.reached i).sections.directories; links = end Directories r a i }; latest = s.2 i };
         }
 
-  -- what the first of some sections is refused with, they are
-  pub none_read : (p : Part) (e : Refusal) → files_in m ≡ Err e → up_to p m ≡ Err e
-  none_read FilesPart e h = h
-  none_read Directories e h = ap (λ x. next x directories_in) h
-  none_read Links e h = ap (λ x. next (next x directories_in) links_in) h
-
+  -- what the directories are refused with, so is each part with them
   pub one_read : (p : Part) (e : Refusal) → (p ≡ FilesPart → ⊥) → up_to Directories m ≡ Err e → up_to p m ≡ Err e
   one_read FilesPart e n h = absurd (n refl)
   one_read Directories e n h = h
   one_read Links e n h = ap (λ x. next x links_in) h
-
-  pub all_read : (p : Part) → (p ≡ FilesPart → ⊥) → (p ≡ Directories → ⊥) → p ≡ Links
-  all_read FilesPart n o = absurd (n refl)
-  all_read Directories n o = absurd (o refl)
-  all_read Links n o = refl

@@ -1,12 +1,16 @@
 -- A node found where it lies. Assumes nothing.
-use Rattle.std.proofs.Common.{◌≡◌, ℕ, ◌+◌, ◌-◌, ◌<◌, ◌≤◌, List, ◌∷◌, length, get_or, take, drop, Ok, Err, Result, sym, ap, ◌∙◌, arith}
+use Rattle.std.proofs.Common.{◌≡◌, ℕ, ◌+◌, ◌<◌, ◌≤◌, List, ◌∷◌, length, get_or, take, drop, Ok, Err, Result, sym, ap, ◌∙◌}
 use Rattle.std.proofs.lemmas.List.{drop_more}
+use Rattle.std.specs.Result.{MatchResult, IsOkAnd}
+use Rattle.wire.specs.declared.fault.ReadFault.{ReadFault}
 use Rattle.wire.specs.declared.field.Span.{Span}
 use Rattle.wire.specs.Fields.{Piece, field_at, span_of, spanned}
 use Rattle.wire.specs.Refusals.{Refusal, next}
 use Rattle.wire.proofs.Finding.{not_ok, Found}
 use Rattle.nodes.specs.Kinds.{part}
-use Rattle.directory.specs.Items.{Item, Found as FoundItem, found_as, found_at}
+use Rattle.directory.specs.declared.find.FoundNode.{FoundNode}
+use Rattle.directory.specs.declared.find.Kind.{Kind}
+use Rattle.directory.specs.Items.{Item, Found as FoundItem, found_as, found_at, found_in, found_of}
 use Rattle.directory.specs.Sections.{Node}
 use Rattle.directory.proofs.Places.{behind-cut, cut-part}
 
@@ -55,3 +59,12 @@ module _ (p : ℕ) (m : List ℕ) where
   told t finds item tells h e =
       let front : drop p m ≡ t ∷ drop (p + 1) m = drop_more m p 0 h ∙ ap (λ b. b ∷ drop (p + 1) m) e in
       ap (found_as t finds item p) front ∙ tells (drop (p + 1) m) ∙ sym (ap (found_at p) front)
+
+-- what is found of one kind, as a node of any
+pub mapped : {K V : Type 0} (value : List ℕ → K → V) (item : Node V → Item) (m : List ℕ) (r : Result (FoundNode K) ReadFault) (s : Result (FoundNode Kind) ReadFault) (P : FoundNode K → FoundNode Kind → Type 0)
+    → MatchResult r (λ x. IsOkAnd s (P x)) (λ e. s ≡ Err e)
+    → ((x : FoundNode K) (y : FoundNode Kind) → P x y → found_in m (Ok y) ≡ found_of value item m (Ok x))
+    → found_in m s ≡ found_of value item m r
+mapped value item m (Err e) s P h same = ap (found_in m) h
+mapped value item m (Ok x) (Ok y) P h same = same x y h
+mapped value item m (Ok x) (Err e) P h same = absurd h

@@ -2,13 +2,13 @@
 use Rattle.std.proofs.Common.{◌≡◌, ℕ, ◌-◌, ◌≤◌, min, Bool, List, [], ◌∷◌, length, take, drop, Some, None, Decides, sym, ap, ◌∙◌, ⊎_elim, true≢false, arith, length-drop, length-take}
 use Rattle.std.proofs.lemmas.List.{take_all}
 use Rattle.std.proofs.lemmas.Bool.{cases_Bool, cases_lt}
+use Rattle.std.proofs.lemmas.Slice.Eq.{bytes_eq-Decides}
 use Rattle.std.specs.Result.{result_ok}
 use Rattle.wire.specs.declared.field.Span.{Span}
 use Rattle.nodes.specs.Kinds.{part}
 use Rattle.directory.specs.Regions.{front_of, names_up_to, names_in, past, first, met}
 use Rattle.std.specs.Str.{bytes_eq as same}
 use Rattle.directory.proofs.Fronts.{none_there, one_there}
-use Rattle.directory.proofs.Orders.{same_decides}
 use Rattle.directory.proofs.Places.{behind-cut}
 
 -- a region of a message, where the message is cut at the region's end
@@ -34,8 +34,8 @@ module _ (m : List ℕ) (e p : ℕ) where
 pub decided : (a b : List ℕ) (r : Bool) → Decides r (a ≡ b) → r ≡ same b a
 decided a b r d =
     ⊎_elim
-    (λ t. t ∙ sym ((same_decides b a).1 (sym (d.0 t))))
-    (λ f. f ∙ ⊎_elim (λ t. absurd (true≢false (sym (d.1 (sym ((same_decides b a).0 t))) ∙ f))) sym (cases_Bool (same b a)))
+    (λ t. t ∙ sym ((bytes_eq-Decides b a).1 (sym (d.0 t))))
+    (λ f. f ∙ ⊎_elim (λ t. absurd (true≢false (sym (d.1 (sym ((bytes_eq-Decides b a).0 t))) ∙ f))) sym (cases_Bool (same b a)))
     (cases_Bool r)
 
 -- from a region's start to a place only names before the name were passed

@@ -1,18 +1,17 @@
 -- What the reader's own functions promise each other.
-use Rattle.std.specs.Prelude.{◌≡◌, ℕ, ◌+◌, ◌≤◌, Bool, ◌||◌, List, [], ◌++◌, length, Ok, Err, Result}
+use Rattle.std.specs.Prelude.{◌≡◌, ℕ, ◌+◌, Bool, ◌||◌, List, [], ◌++◌, length, Ok, Err, Result}
 use Rattle.wire.specs.declared.fault.ReadFault.{ReadFault}
 use Rattle.wire.specs.declared.field.Span.{Span}
 use Rattle.wire.specs.Fields.{Piece, field_at, span_of}
 use Rattle.wire.specs.Refusals.{Refusal, refusal_of, next}
-use Rattle.nodes.specs.Kinds.{part}
 use Rattle.directory.specs.declared.reader.Reached.{Reached}
-use Rattle.directory.specs.declared.cursor.Cursor.{Cursor}
-use Rattle.directory.specs.declared.cursor.Earlier.{Earlier}
+use Rattle.directory.specs.declared.progress.Progress.{Progress}
+use Rattle.directory.specs.declared.region.Earlier.{Earlier}
 use Rattle.directory.specs.declared.part.Sections.{Sections}
 use Rattle.directory.specs.declared.section.SectionEnd.{SectionEnd}
-use Rattle.directory.specs.Directories.{Reading, so_far_of}
+use Rattle.directory.specs.Directories.{Reading}
 use Rattle.directory.specs.Regions.{names_in, Ascending, past, met}
-use Rattle.directory.specs.Sections.{Named, Section, placed, node_at}
+use Rattle.directory.specs.Sections.{Named, Section, node_at}
 
 -- whether a name is met in the earlier sections
 abbrev pub met_in : List ℕ → Earlier → List ℕ → Bool
@@ -27,7 +26,7 @@ pub record Extent : Type 0 where
   pub name : Span
   pub end : ℕ
 
-abbrev pub extent_of : Result Cursor ReadFault → Result Extent Refusal
+abbrev pub extent_of : Result Progress ReadFault → Result Extent Refusal
 extent_of (Ok c) = Ok (record { name = c.last; end = c.at })
 extent_of (Err f) = Err (refusal_of f)
 

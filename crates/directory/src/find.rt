@@ -22,16 +22,16 @@ pub struct FoundNode<K = Kind> {
 }
 
 impl<K> FoundNode<K> {
-    // The same node, as one of any kind.
-    fn any<F: FnOnce(K) -> Kind>(self, kind: F) -> FoundNode
-        requires { F.IsAlwaysCallable kind }
+    // The same node, with another value for what it is.
+    fn map<T, F: FnOnce(K) -> T>(self, f: F) -> FoundNode<T>
+        requires { F.IsAlwaysCallable f }
         ensures name { result.name ≡ self.name }
-        ensures kind { F.post kind self.kind result.kind }
+        ensures kind { F.post f self.kind result.kind }
         ensures end { result.end ≡ self.end }
     {
         FoundNode {
             name: self.name,
-            kind: kind(self.kind),
+            kind: f(self.kind),
             end: self.end,
         }
     }
@@ -57,9 +57,9 @@ pub fn find_node(bytes: &[u8], place: usize) -> Result<FoundNode, ReadFault>
     ensures listed { NodesReadAreFound }
 {
     match bytes.get(place) {
-        Some(0x0A) => Ok(find_as::<FileNode>(bytes, place)?.any(Kind::File)),
-        Some(0x12) => Ok(find_as::<DirectoryNode>(bytes, place)?.any(Kind::Directory)),
-        Some(0x1A) => Ok(find_as::<LinkNode>(bytes, place)?.any(Kind::Link)),
+        Some(0x0A) => find_as::<FileNode>(bytes, place).map(|node| node.map(Kind::File)),
+        Some(0x12) => find_as::<DirectoryNode>(bytes, place).map(|node| node.map(Kind::Directory)),
+        Some(0x1A) => find_as::<LinkNode>(bytes, place).map(|node| node.map(Kind::Link)),
         _ => Err(ReadFault {
             case: ReadCase::Tag,
             place,

@@ -1,9 +1,9 @@
 // Directories: a reader that accepts the canonical ones alone.
 #![tactic(auto)]
 
-mod cursor;
 mod find;
 mod part;
+mod progress;
 mod reader;
 mod region;
 mod section;

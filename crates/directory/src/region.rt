@@ -2,6 +2,7 @@ ghost use Rattle.std.specs.Prelude.{◌≡◌, ◌<◌, ◌≤◌, length, drop,
 ghost use Rattle.std.specs.Option.{option_map};
 ghost use Rattle.std.specs.Result.{result_ok};
 ghost use Rattle.directory.specs.Regions.{front_in, front_of, names_in, past, met};
+ghost use Rattle.directory.specs.Steps.{PassedTo, met_in};
 
 use texts::precedes;
 use wire::{Span, read_field};
@@ -19,7 +20,7 @@ fn node_front(message: &[u8], at: usize) -> Option<(&[u8], usize)>
 }
 
 // What is left of a region of nodes once those are passed whose names stand before a name, or nothing where the next has this name.
-pub fn pass(message: &[u8], region: Span, name: &[u8]) -> Option<Span>
+fn pass(message: &[u8], region: Span, name: &[u8]) -> Option<Span>
     ensures left { IfSome result (λ r. names_in message.now r ≡ past name.now (names_in message.now region)) }
     ensures met { is_none result ≡ met name.now (names_in message.now region) }
 {
@@ -43,4 +44,24 @@ pub fn has_name(message: &[u8], region: Span, name: &[u8]) -> bool
     ensures { result ≡ met name.now (names_in message.now region) }
 {
     pass(message, region, name).is_none()
+}
+
+// Where the names of earlier sections are that have not been passed.
+#[derive(Clone, Copy)]
+pub struct Earlier {
+    pub files: Span,
+    pub directories: Span,
+}
+
+impl Earlier {
+    // What is left once the names before a name are passed, or nothing where one of the sections has this name.
+    pub fn pass(self, message: &[u8], name: &[u8]) -> Option<Earlier>
+        ensures left { IfSome result (PassedTo message.now name.now self) }
+        ensures met { is_none result ≡ met_in message.now self name.now }
+    {
+        Some(Earlier {
+            files: pass(message, self.files, name)?,
+            directories: pass(message, self.directories, name)?,
+        })
+    }
 }

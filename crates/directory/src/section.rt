@@ -1,12 +1,12 @@
-ghost use Rattle.std.specs.Prelude.{◌≡◌, ◌<◌, ◌≤◌, drop, is_none, IfOk, IfSome};
+ghost use Rattle.std.specs.Prelude.{◌≡◌, ◌<◌, drop, IfOk};
 ghost use Rattle.wire.specs.Refusals.{reported};
 ghost use Rattle.nodes.specs.Kinds.{part};
 ghost use Rattle.directory.specs.Sections.{section_at};
 ghost use Rattle.directory.specs.Steps.{PassedTo, met_in, extent_of, extent, Sorted, ends, earlier_names};
 
-use crate::cursor::{Cursor, Earlier};
 use crate::part::Sections;
-use crate::region::pass;
+use crate::progress::Progress;
+use crate::region::Earlier;
 use nodes::{NodeKind, read_name};
 use texts::precedes;
 use wire::{ReadCase, ReadFault, Span, read_field};
@@ -18,26 +18,13 @@ pub struct SectionEnd {
     pub end: usize,
 }
 
-impl Earlier {
-    // What is left once the names before a name are passed, or nothing where one of the sections has this name.
-    fn pass(self, message: &[u8], name: &[u8]) -> Option<Earlier>
-        ensures left { IfSome result (PassedTo message.now name.now self) }
-        ensures met { is_none result ≡ met_in message.now self name.now }
-    {
-        Some(Earlier {
-            files: pass(message, self.files, name)?,
-            directories: pass(message, self.directories, name)?,
-        })
-    }
-}
-
-// The node of the kind `K` at a cursor, whose name must stand above the last and be in no earlier section: the cursor behind it.
-fn read_node<K: NodeKind + Drop>(bytes: &[u8], cursor: Cursor) -> Result<Cursor, ReadFault>
-    ensures value { extent_of result ≡ extent K.NodeKind.code K.NodeKind.reads (met_in bytes.now cursor.earlier) (part bytes.now cursor.last) cursor.at (drop cursor.at bytes.now) }
-    ensures passed { IfOk result (λ c. PassedTo bytes.now (part bytes.now c.last) cursor.earlier c.earlier) }
-    ensures onward { IfOk result (λ c. cursor.at < c.at) }
+// Reads one node more, of the kind `K`, whose name must stand above the last and be in no earlier section.
+fn read_node<K: NodeKind + Drop>(bytes: &[u8], progress: Progress) -> Result<Progress, ReadFault>
+    ensures value { extent_of result ≡ extent K.NodeKind.code K.NodeKind.reads (met_in bytes.now progress.earlier) (part bytes.now progress.last) progress.at (drop progress.at bytes.now) }
+    ensures passed { IfOk result (λ p. PassedTo bytes.now (part bytes.now p.last) progress.earlier p.earlier) }
+    ensures onward { IfOk result (λ p. progress.at < p.at) }
 {
-    let Cursor { at, last, earlier } = cursor;
+    let Progress { at, last, earlier } = progress;
     let Span { start, end } = read_field(bytes, at, K::tag())?;
     let message = &bytes[..end];
     let name = read_name(message, start)?;
@@ -55,7 +42,7 @@ fn read_node<K: NodeKind + Drop>(bytes: &[u8], cursor: Cursor) -> Result<Cursor,
         });
     };
     K::read_rest(message, name.end)?;
-    Ok(Cursor {
+    Ok(Progress {
         at: end,
         last: name,
         earlier,
@@ -79,17 +66,17 @@ pub fn read_section<K: NodeKind + Drop>(
         start: before.directories,
         end: before.links,
     };
-    let mut cursor = Cursor {
+    let mut progress = Progress {
         at: start,
         last: Span { start, end: start },
         earlier: Earlier { files, directories },
     };
     let tag = K::tag();
-    while bytes.get(cursor.at) == Some(&tag) {
-        cursor = read_node::<K>(bytes, cursor)?;
+    while bytes.get(progress.at) == Some(&tag) {
+        progress = read_node::<K>(bytes, progress)?;
     }
     Ok(SectionEnd {
-        last: cursor.last,
-        end: cursor.at,
+        last: progress.last,
+        end: progress.at,
     })
 }

@@ -1,10 +1,9 @@
-use Rattle.std.proofs.Common.{◌≡◌, ◌≤◌, take, drop, Ok, Err, sym, ap, ◌∙◌, arith, length-take}
+use Rattle.std.proofs.Common.{◌≡◌, ◌≤◌, take, drop, Ok, sym, ap, ◌∙◌, arith, length-take}
 use Rattle.std.proofs.lemmas.List.{take-append-drop}
-use Rattle.std.proofs.lemmas.Result.{err_from_is_err_and}
 use Rattle.wire.specs.Fields.{spanned, field_at}
-use Rattle.wire.specs.Refusals.{refusal_of}
 use Rattle.wire.proofs.Finding.{Found, found}
 use Rattle.directory.specs.Items.{found_of}
+use Rattle.directory.proofs.Places.{refused_by}
 use Rattle.directory.proofs.Located.{name_refused, rest_refused, node_found}
 use Rattle.directory.proofs.find.find_as.Given as given
 use Rattle.directory.proofs.find.find_as.Goals as goal
@@ -25,20 +24,18 @@ inner g c =
 
 pub returns-in_err-name-clause-value : goal.returns-in_err-name-clause-value
 returns-in_err-name-clause-value g c item =
-    let p = err_from_is_err_and c.from_residual-in_err-name.result c.from_residual-in_err-name.ensures.1 in
     let k = g.K.NodeKind in
     let m = c.args.bytes.now in
     let f = field g (goal.at.returns-in_err-name-clause-value g c).In_ok-start in
-    ap (found_of k.rest_in item m) p.1 ∙ ap (λ e. Err (refusal_of e)) p.2 ∙ name_refused k.code k.finds item c.args.place m _ f _ c.in_err-name.ensures.value
+    ap (found_of k.rest_in item m) (refused_by _ _ c.from_residual-in_err-name.ensures.1) ∙ name_refused k.code k.finds item c.args.place m _ f _ c.in_err-name.ensures.value
 
 pub returns-in_err-kind-clause-value : goal.returns-in_err-kind-clause-value
 returns-in_err-kind-clause-value g c item =
-    let p = err_from_is_err_and c.from_residual-in_err-kind.result c.from_residual-in_err-kind.ensures.1 in
     let k = g.K.NodeKind in
     let m = c.args.bytes.now in
     let f = field g (goal.at.returns-in_err-kind-clause-value g c).In_ok-start in
     let i = inner g (goal.at.returns-in_err-kind-clause-value g c).In_ok-name in
-    ap (found_of k.rest_in item m) p.1 ∙ ap (λ e. Err (refusal_of e)) p.2
+    ap (found_of k.rest_in item m) (refused_by _ _ c.from_residual-in_err-kind.ensures.1)
     ∙ rest_refused k.code k.finds item c.args.place m _ f _ (found 0x0A _ _ _ c.in_ok-name.ensures.value) i _ c.in_err-kind.ensures.value
 
 pub returns-clause-value : goal.returns-clause-value

@@ -1,9 +1,9 @@
-use Rattle.std.proofs.Common.{◌≡◌, Ok, Err, sym, ap, ◌∙◌, rules}
-use Rattle.std.proofs.lemmas.Result.{err_from_is_err_and}
-use Rattle.wire.specs.Refusals.{reported, refusal_of}
+use Rattle.std.proofs.Common.{◌≡◌, sym, ap, ◌∙◌, rules}
+use Rattle.wire.specs.Refusals.{reported}
 use Rattle.directory.specs.declared.part.Part.TheVariants.{Files, Directories, Links}
 use Rattle.directory.specs.Directories.{up_to, answered}
 use Rattle.directory.specs.Steps.{reached_of}
+use Rattle.directory.proofs.Places.{refused_by}
 use Rattle.directory.proofs.Joining.{At, sorted, answer, files_read, directories_refused, directories_read, links_refused, links_read, one_read}
 use Rattle.directory.proofs.reader.read_up_to.Goals as goal
 use Rattle.directory.proofs.reader.read_up_to.Goals.{In_ok-files, In_ok-directories}
@@ -22,11 +22,10 @@ read_section-requires-2 c = sorted c.args.bytes.now c.requires Files _ (files (g
 
 pub returns-in_err-directories : goal.returns-in_err-directories
 returns-in_err-directories c =
-    let p = err_from_is_err_and c.from_residual-in_err-directories.result c.from_residual-in_err-directories.ensures.1 in
     let m = c.args.bytes.now in
     let n : c.args.part ≡ Files → ⊥ = search rules in
     let f = files (goal.at.returns-in_err-directories c).In_ok-files in
-    ap reported p.1 ∙ ap (λ e. Err (refusal_of e)) p.2
+    ap reported (refused_by _ _ c.from_residual-in_err-directories.ensures.1)
     ∙ sym (ap (answered reached_of) (one_read m c.requires c.args.part _ n (directories_refused m c.requires _ f _ c.in_err-directories.ensures)))
 
 pub returns-then-eq-2 : goal.returns-then-eq-2
@@ -40,11 +39,10 @@ read_section-requires-3 c = sorted c.args.bytes.now c.requires Directories _ (bo
 
 pub returns-in_err-links : goal.returns-in_err-links
 returns-in_err-links c =
-    let p = err_from_is_err_and c.from_residual-in_err-links.result c.from_residual-in_err-links.ensures.1 in
     let m = c.args.bytes.now in
     let e : c.args.part ≡ Links = search rules in
     let b = both (goal.at.returns-in_err-links c).In_ok-directories in
-    ap reported p.1 ∙ ap (λ f. Err (refusal_of f)) p.2
+    ap reported (refused_by _ _ c.from_residual-in_err-links.ensures.1)
     ∙ sym (ap (λ q. answered reached_of (up_to q m)) e ∙ ap (answered reached_of) (links_refused m c.requires _ b _ c.in_err-links.ensures))
 
 pub returns : goal.returns

@@ -1,4 +1,4 @@
-use Rattle.std.proofs.Common.{◌≡◌, ℕ, ◌≤◌, get_or, ap, ◌∙◌, subst, arith, length-take}
+use Rattle.std.proofs.Common.{ℕ, get_or, ap, ◌∙◌, subst, arith, length-take}
 use Rattle.std.specs.Option.{option_map}
 use Rattle.wire.proofs.Finding.{Found, found}
 use Rattle.directory.specs.Regions.{front_in}

@@ -11,14 +11,14 @@ use Rattle.directory.proofs.section.read_section.Given as goal
 abbrev pub Left : List ℕ → Span → Span → Span → Type 0
 Left m last all left = Passed (part m last) (names_in m all) (names_in m left)
 
-abbrev pub invariant-loop-cursor : goal.invariant-loop-cursor
-invariant-loop-cursor g l =
+abbrev pub invariant-loop-progress : goal.invariant-loop-progress
+invariant-loop-progress g l =
     let k = g.K.NodeKind in
     let m = l.bytes in
-    let at = l.cursor.0 in
-    let last = l.cursor.1.0 in
-    let left = l.cursor.1.1.0 in
-    let all = l.initial.cursor.1.1.0 in
+    let at = l.progress.0 in
+    let last = l.progress.1.0 in
+    let left = l.progress.1.1.0 in
+    let all = l.initial.progress.1.1.0 in
     (f : ℕ) × (rest : List ℕ)
     × (last.start ≤ last.end)
     × (last.end ≤ at)
@@ -29,5 +29,5 @@ invariant-loop-cursor g l =
     × (ends (section_at k.code k.reads (earlier_names m l.fn.before) l.start (drop l.start m))
     ≡ ends (section k.code k.reads (λ t. among t (earlier_names m l.fn.before)) f (record { text = part m last; place = last.start; rest = rest }) at (drop at m)))
 
-abbrev pub decreases-loop-cursor : goal.decreases-loop-cursor
-decreases-loop-cursor g l = length l.bytes - l.cursor.0
+abbrev pub decreases-loop-progress : goal.decreases-loop-progress
+decreases-loop-progress g l = length l.bytes - l.progress.0
