@@ -131,17 +131,6 @@ module _ (m : List ℕ) (small : length m ≤ 16777216) where
   empty_at : (p : ℕ) → names_in m (record { start = p; end = p }) ≡ []
   empty_at p = let z : p - p ≡ 0 = omega arith in ap (λ k. names_up_to (length m) (take k (drop p m))) z ∙ none_in (length m)
 
-  of_both : (q : Reading) → up_to Directories m ≡ Ok q → Regions q
-  of_both q e =
-      let b = both q e in
-      let made : Regions (with_directories (with_files b.first) b.second) = record {
-        files = b.files.found;
-        files_ascend = b.files.ascend;
-        directories = b.directories.found;
-        directories_ascend = b.directories.ascend;
-      } in
-      subst Regions b.is made
-
   pub regions : (p : Part) (q : Reading) → up_to p m ≡ Ok q → Regions q
   regions FilesPart q e =
       let f = files q e in
@@ -152,7 +141,15 @@ module _ (m : List ℕ) (small : length m ≤ 16777216) where
         directories_ascend = tt;
       } in
       subst Regions f.is made
-  regions Directories q e = of_both q e
+  regions Directories q e =
+      let b = both q e in
+      let made : Regions (with_directories (with_files b.first) b.second) = record {
+        files = b.files.found;
+        files_ascend = b.files.ascend;
+        directories = b.directories.found;
+        directories_ascend = b.directories.ascend;
+      } in
+      subst Regions b.is made
   regions Links q e =
       let w = went_on (up_to Directories m) links_in q e in
       let v = went_on (section_at 0x1A link_reads (names w.0.nodes.files ++ names w.0.nodes.directories) w.0.place w.0.rest) _ q w.2 in

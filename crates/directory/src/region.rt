@@ -29,7 +29,7 @@ fn pass(message: &[u8], region: Span, name: &[u8]) -> Option<Span>
     let mut at = region.start;
     while let Some((other, behind)) = node_front(nodes, at) {
         if !precedes(other, name) {
-            if other == name {
+            if name == other {
                 return None;
             }
             break;

@@ -1,10 +1,8 @@
 use Rattle.std.proofs.Common.{◌≡◌, false, [], take, drop, sym, refl, ap, ◌∙◌}
-use Rattle.std.proofs.lemmas.Bool.Decides.{Decides-eqb}
-use Rattle.std.proofs.lemmas.Slice.Eq.{slice_eq-Decides}
 use Rattle.std.proofs.lemmas.Bool.{cond-true, cond-false}
 use Rattle.std.specs.Str.{bytes_eq as same}
 use Rattle.directory.specs.Regions.{names_in, past, met}
-use Rattle.directory.proofs.Seeking.{none_here, one_here, decided, sought}
+use Rattle.directory.proofs.Seeking.{none_here, one_here, sought}
 use Rattle.directory.proofs.region.pass.Goals as goal
 use Rattle.directory.proofs.region.pass.Goals.{Then-not-precedes, In_default}
 
@@ -18,19 +16,13 @@ stopped c =
     sought m c.args.name.now c.args.region e c.loop-other.at c.min-end.ensures c.loop-other.invariant _ here (cond-false _ _ _ (sym c.if-not-precedes.ensures))
 
 pub returns-then-eq-clause-met : goal.returns-then-eq-clause-met
-returns-then-eq-clause-met c =
-    let other = c.in-Some.other.now in
-    let eq = decided other c.args.name.now _ (slice_eq-Decides Decides-eqb other c.args.name.now _ c.eq.ensures) in
-    sym c.if-eq.true ∙ eq ∙ (stopped (goal.at.returns-then-eq-clause-met c).Then-not-precedes).1
+returns-then-eq-clause-met c = c.if-eq.ensures ∙ (stopped (goal.at.returns-then-eq-clause-met c).Then-not-precedes).1
 
 pub returns-else-eq-clause-left : goal.returns-else-eq-clause-left
 returns-else-eq-clause-left c = (stopped (goal.at.returns-else-eq-clause-left c).Then-not-precedes).0
 
 pub returns-else-eq-clause-met : goal.returns-else-eq-clause-met
-returns-else-eq-clause-met c =
-    let other = c.in-Some.other.now in
-    let eq = decided other c.args.name.now _ (slice_eq-Decides Decides-eqb other c.args.name.now _ c.eq.ensures) in
-    sym c.if-eq.false ∙ eq ∙ (stopped (goal.at.returns-else-eq-clause-met c).Then-not-precedes).1
+returns-else-eq-clause-met c = c.if-eq.ensures ∙ (stopped (goal.at.returns-else-eq-clause-met c).Then-not-precedes).1
 
 pub loop-other-preserved : goal.loop-other-preserved
 loop-other-preserved c =
