@@ -11,14 +11,14 @@ use Rattle.nodes.specs.Kinds.{FileValue, file_reads, file_writes, directory_read
 use Rattle.nodes.specs.Laws.{file_accepts, directory_accepts, link_accepts}
 use Rattle.directory.specs.declared.part.Part.TheVariants.{Files as FilesPart, Directories, Links}
 use Rattle.directory.specs.declared.part.Part.{Part}
-use Rattle.directory.specs.declared.section.Earlier.{Earlier}
+use Rattle.directory.specs.declared.part.Sections.{Sections}
 use Rattle.directory.specs.declared.section.SectionEnd.{SectionEnd}
 use Rattle.directory.specs.declared.reader.Reached.{Reached}
 use Rattle.directory.specs.Canonical.{GoodSection, section_bytes}
 use Rattle.directory.specs.Directories.{Reading, files_in, with_files, directories_in, with_directories, links_in, with_links, up_to, closed, part_of, so_far_of, answered}
 use Rattle.directory.specs.Regions.{names_in, names_up_to, Ascending}
 use Rattle.directory.specs.Sections.{Node, Section, names, nobody, section_at}
-use Rattle.directory.specs.Steps.{earlier_names, Sorted, ends, end_of, reached_of}
+use Rattle.directory.specs.Steps.{files_at, directories_at, earlier_names, Sorted, ends, end_of, reached_of}
 use Rattle.directory.proofs.Fronts.{names_within}
 use Rattle.directory.proofs.OneSection.{accepted}
 
@@ -67,41 +67,21 @@ pub was : {A : Type 0} (f : Reading → A) (r : Result Reading Refusal) (x : A) 
 was f (Ok q) x e = (q, refl, same_ok e)
 was f (Err d) x e = absurd (not_ok e)
 
--- what is answered of a section, and what goes on from it
-module _ {V : Type 0} (x : Result (Section V) Refusal) (with : Section V → Reading) (made : SectionEnd → Reached) (is : (s : Section V) → reached_of (with s) ≡ made (end_of s)) where
-  pub section_refused : (e : Refusal) → Err e ≡ ends x → Err e ≡ answered reached_of (next x (λ s. Ok (with s)))
-  section_refused e h = go x h
-    where
-      go : (y : Result (Section V) Refusal) → Err e ≡ ends y → Err e ≡ answered reached_of (next y (λ s. Ok (with s)))
-      go (Ok s) h = absurd (not_ok h)
-      go (Err d) h = cc
+-- what goes on from a section that was refused, and from one that was read
+section_refused : {V : Type 0} (x : Result (Section V) Refusal) (with : Section V → Reading) (e : Refusal) → Err e ≡ ends x → next x (λ s. Ok (with s)) ≡ Err e
+section_refused (Ok s) with e h = absurd (not_ok h)
+section_refused (Err d) with e h = cc
 
-  pub section_read : (s : SectionEnd) → Ok s ≡ ends x → Ok (made s) ≡ answered reached_of (next x (λ s. Ok (with s)))
-  section_read s h = go x h
-    where
-      go : (y : Result (Section V) Refusal) → Ok s ≡ ends y → Ok (made s) ≡ answered reached_of (next y (λ s. Ok (with s)))
-      go (Ok t) h = ap (λ k. Ok (made k)) (same_ok h) ∙ ap Ok (sym (is t))
-      go (Err d) h = absurd (not_ok (sym h))
+section_read : {V : Type 0} (x : Result (Section V) Refusal) (with : Section V → Reading) (e : SectionEnd) → Ok e ≡ ends x → (s : Section V) × (next x (λ s. Ok (with s)) ≡ Ok (with s)) × (end_of s ≡ e)
+section_read (Ok s) with e h = (s, refl, sym (same_ok h))
+section_read (Err d) with e h = absurd (not_ok (sym h))
 
--- what is reached with a section
-abbrev pub files_end : SectionEnd → Reached
-files_end s = record { so_far = record { sections = record { directories = s.end; links = s.end }; last = s.last }; end = s.end }
+-- before the files there are no names
+abbrev pub none : Sections
+none = record { directories = 0; links = 0 }
 
-abbrev pub directories_end : Reading → SectionEnd → Reached
-directories_end q s = record { so_far = record { sections = record { directories = q.place; links = s.end }; last = s.last }; end = s.end }
-
-abbrev pub links_end : Reading → SectionEnd → Reached
-links_end q s = record { so_far = record { sections = record { directories = q.sections.directories; links = q.place }; last = s.last }; end = s.end }
-
--- the earlier sections of the files, of the directories and of the links
-abbrev pub none : Earlier
-none = record { files = record { start = 0; end = 0 }; directories = record { start = 0; end = 0 } }
-
-pub none_sorted : (m : List ℕ) → Sorted m none
-none_sorted m = let h = subst (Ascending []) (sym (nowhere m)) tt in (h, h)
-
-pub none-names : (m : List ℕ) → [] ≡ earlier_names m none
-none-names m = sym (λ i. nowhere m i ++ nowhere m i)
+none-names : (m : List ℕ) → earlier_names m none ≡ []
+none-names m i = nowhere m i ++ nowhere m i
 
 module _ (m : List ℕ) (small : length m ≤ 16777216) where
   -- the files that were read
@@ -114,35 +94,6 @@ module _ (m : List ℕ) (small : length m ≤ 16777216) where
   files q e =
       let w = went_on (section_at 0x0A file_reads [] 0 m) _ q e in
       record { section = w.0; is = same_ok w.2; region = region 0x0A file_reads file_writes SoundFile file_accepts m 0 [] w.0 small (omega arith) w.1 }
-
-  abbrev pub after_files : ℕ → Earlier
-  after_files end = record { files = record { start = 0; end = end }; directories = record { start = 0; end = 0 } }
-
-  -- how the directories are read behind the files
-  pub record BehindFiles (reached : Reached) : Type 0 where
-    pub before : Reading
-    pub end : before.place ≡ reached.end
-    pub sorted : Sorted m (after_files reached.end)
-    pub on : up_to Directories m ≡ next (section_at 0x12 directory_reads (earlier_names m (after_files reached.end)) reached.end (drop reached.end m)) (λ s. Ok (with_directories before s))
-
-  pub behind-files : (reached : Reached) → answered reached_of (files_in m) ≡ Ok reached → BehindFiles reached
-  behind-files reached e =
-      let w = was reached_of (files_in m) reached e in
-      let q = w.0 in
-      let f = files q w.1 in
-      let s = f.section in
-      let end : q.place ≡ reached.end = ap (λ k. k.end) w.2 in
-      let at : s.place ≡ reached.end = ap (λ k. k.place) f.is ∙ end in
-      let found : names_in m (record { start = 0; end = reached.end }) ≡ names s.nodes = ap (λ k. names_in m (record { start = 0; end = k })) (sym at) ∙ f.region.found in
-      let all : names q.nodes.files ≡ earlier_names m (after_files reached.end) =
-      ap (λ k. names k.nodes.files) (sym f.is) ∙ sym (append-nil (names s.nodes)) ∙ sym (λ i. found i ++ nowhere m i) in
-      let rest : q.rest ≡ drop reached.end m = ap (λ k. k.rest) (sym f.is) ∙ f.region.rest ∙ ap (λ k. drop k m) at in
-      record {
-        before = q;
-        end = end;
-        sorted = (subst (Ascending []) (sym found) f.region.ascend, (none_sorted m).1);
-        on = ap (λ r. next r directories_in) w.1 ∙ (λ i. next (section_at 0x12 directory_reads (all i) (end i) (rest i)) (λ s. Ok (with_directories q s)));
-      }
 
   -- the files and directories that were read
   record Both (q : Reading) : Type 0 where
@@ -170,60 +121,15 @@ module _ (m : List ℕ) (small : length m ≤ 16777216) where
         directories = region 0x12 directory_reads directory_writes SoundDigest directory_accepts m s.place _ v.0 small f.region.within read;
       }
 
-  abbrev pub after_both : ℕ → ℕ → Earlier
-  after_both middle end = record { files = record { start = 0; end = middle }; directories = record { start = middle; end = end } }
-
-  -- how the links are read behind both
-  pub record BehindBoth (reached : Reached) : Type 0 where
-    pub before : Reading
-    pub end : before.place ≡ reached.end
-    pub middle : before.sections.directories ≡ reached.so_far.sections.directories
-    pub sorted : Sorted m (after_both reached.so_far.sections.directories reached.end)
-    pub on : next (up_to Directories m) links_in ≡ next (section_at 0x1A link_reads (earlier_names m (after_both reached.so_far.sections.directories reached.end)) reached.end (drop reached.end m)) (λ s. Ok (with_links before s))
-
-  pub behind-both : (reached : Reached) → answered reached_of (up_to Directories m) ≡ Ok reached → BehindBoth reached
-  behind-both reached e =
-      let w = was reached_of (up_to Directories m) reached e in
-      let q = w.0 in
-      let b = both q w.1 in
-      let end : q.place ≡ reached.end = ap (λ k. k.end) w.2 in
-      let middle : q.sections.directories ≡ reached.so_far.sections.directories = ap (λ k. k.so_far.sections.directories) w.2 in
-      let to : b.second.place ≡ reached.end = ap (λ k. k.place) b.is ∙ end in
-      let from : b.first.place ≡ reached.so_far.sections.directories = ap (λ k. k.sections.directories) b.is ∙ middle in
-      let fs : names_in m (record { start = 0; end = reached.so_far.sections.directories }) ≡ names b.first.nodes = ap (λ k. names_in m (record { start = 0; end = k })) (sym from) ∙ b.files.found in
-      let ds : names_in m (record { start = reached.so_far.sections.directories; end = reached.end }) ≡ names b.second.nodes =
-      (λ i. names_in m (record { start = sym from i; end = sym to i })) ∙ b.directories.found in
-      let all : names q.nodes.files ++ names q.nodes.directories ≡ earlier_names m (after_both reached.so_far.sections.directories reached.end) =
-      ap (λ k. names k.nodes.files ++ names k.nodes.directories) (sym b.is) ∙ sym (λ i. fs i ++ ds i) in
-      let rest : q.rest ≡ drop reached.end m = ap (λ k. k.rest) (sym b.is) ∙ b.directories.rest ∙ ap (λ k. drop k m) to in
-      record {
-        before = q;
-        end = end;
-        middle = middle;
-        sorted = (subst (Ascending []) (sym fs) b.files.ascend, subst (Ascending []) (sym ds) b.directories.ascend);
-        on = ap (λ r. next r links_in) w.1 ∙ (λ i. next (section_at 0x1A link_reads (all i) (end i) (rest i)) (λ s. Ok (with_links q s)));
-      }
-
   -- the files and directories that were read, as regions of the message
   pub record Regions (q : Reading) : Type 0 where
-    pub files : names_in m (record { start = 0; end = q.sections.directories }) ≡ names q.nodes.files
+    pub files : names_in m (files_at q.sections) ≡ names q.nodes.files
     pub files_ascend : Ascending [] (names q.nodes.files)
-    pub directories : names_in m (record { start = q.sections.directories; end = q.sections.links }) ≡ names q.nodes.directories
+    pub directories : names_in m (directories_at q.sections) ≡ names q.nodes.directories
     pub directories_ascend : Ascending [] (names q.nodes.directories)
 
   empty_at : (p : ℕ) → names_in m (record { start = p; end = p }) ≡ []
   empty_at p = let z : p - p ≡ 0 = omega arith in ap (λ k. names_up_to (length m) (take k (drop p m))) z ∙ none_in (length m)
-
-  of_both : (q : Reading) → up_to Directories m ≡ Ok q → Regions q
-  of_both q e =
-      let b = both q e in
-      let made : Regions (with_directories (with_files b.first) b.second) = record {
-        files = b.files.found;
-        files_ascend = b.files.ascend;
-        directories = b.directories.found;
-        directories_ascend = b.directories.ascend;
-      } in
-      subst Regions b.is made
 
   pub regions : (p : Part) (q : Reading) → up_to p m ≡ Ok q → Regions q
   regions FilesPart q e =
@@ -235,7 +141,15 @@ module _ (m : List ℕ) (small : length m ≤ 16777216) where
         directories_ascend = tt;
       } in
       subst Regions f.is made
-  regions Directories q e = of_both q e
+  regions Directories q e =
+      let b = both q e in
+      let made : Regions (with_directories (with_files b.first) b.second) = record {
+        files = b.files.found;
+        files_ascend = b.files.ascend;
+        directories = b.directories.found;
+        directories_ascend = b.directories.ascend;
+      } in
+      subst Regions b.is made
   regions Links q e =
       let w = went_on (up_to Directories m) links_in q e in
       let v = went_on (section_at 0x1A link_reads (names w.0.nodes.files ++ names w.0.nodes.directories) w.0.place w.0.rest) _ q w.2 in
@@ -261,21 +175,104 @@ module _ (m : List ℕ) (small : length m ≤ 16777216) where
       let l = region 0x1A link_reads link_writes SoundLink link_accepts m b.second.place _ v.0 small b.directories.within read in
       subst (λ k. k.rest ≡ drop k.place m) (same_ok v.2) l.rest
 
-  -- nothing follows, or something does
-  module _ (p : Part) (reached : Reached) (e : answered reached_of (up_to p m) ≡ Ok reached) where
-    here : (q : Reading) × (up_to p m ≡ Ok q) × (reached_of q ≡ reached)
-    here = was reached_of (up_to p m) reached e
+  -- what the reader has reached, and what it read
+  pub record At (p : Part) (r : Reached) : Type 0 where
+    pub reading : Reading
+    pub is : up_to p m ≡ Ok reading
+    pub reached : reached_of reading ≡ r
 
-    opened : part_of p m ≡ closed here.0
-    opened = cond-true (leb (length m) 16777216) _ _ (le-leb _ _ small) ∙ ap (λ r. next r closed) here.1
+  pub at : (p : Part) (r : Reached) → Ok r ≡ answered reached_of (up_to p m) → At p r
+  at p r e = let w = was reached_of (up_to p m) r (sym e) in record { reading = w.0; is = w.1; reached = w.2 }
 
-    closed_at : closed here.0 ≡ ended here.0 reached.end (drop reached.end m)
-    closed_at =
-        let end : here.0.place ≡ reached.end = ap (λ k. k.end) here.2 in
-        λ i. ended here.0 (end i) ((rest_is p here.0 here.1 ∙ ap (λ k. drop k m) end) i)
+  module _ (p : Part) (r : Reached) (a : At p r) where
+    abbrev q : Reading
+    q = a.reading
 
-    pub part_followed : reached.end < length m → refused 13 reached.end ≡ answered so_far_of (part_of p m)
-    part_followed h = sym (ap (answered so_far_of) (opened ∙ closed_at ∙ ap (ended here.0 reached.end) (drop_more m reached.end 0 h)))
+    end : q.place ≡ r.latest.end
+    end = ap (λ k. k.latest.end) a.reached
 
-    pub part_ended : length m ≤ reached.end → Ok reached.so_far ≡ answered so_far_of (part_of p m)
-    part_ended h = sym (ap (answered so_far_of) (opened ∙ closed_at ∙ ap (ended here.0 reached.end) (drop_all reached.end m h)) ∙ ap (λ k. Ok k.so_far) here.2)
+    rest : q.rest ≡ drop r.latest.end m
+    rest = rest_is p q a.is ∙ ap (λ k. drop k m) end
+
+    pub sorted : Sorted m r.sections
+    sorted =
+        let g = regions p q a.is in
+        subst (Sorted m) (ap (λ k. k.sections) a.reached) (subst (Ascending []) (sym g.files) g.files_ascend, subst (Ascending []) (sym g.directories) g.directories_ascend)
+
+    earlier : names q.nodes.files ++ names q.nodes.directories ≡ earlier_names m r.sections
+    earlier = let g = regions p q a.is in sym (λ i. g.files i ++ g.directories i) ∙ ap (λ k. earlier_names m k.sections) a.reached
+
+    pub answer : Ok r ≡ answered reached_of (up_to p m)
+    answer = ap Ok (sym a.reached) ∙ sym (ap (answered reached_of) a.is)
+
+    -- nothing follows, or something does
+    opened : part_of p m ≡ ended q r.latest.end (drop r.latest.end m)
+    opened = cond-true (leb (length m) 16777216) _ _ (le-leb _ _ small) ∙ ap (λ x. next x closed) a.is ∙ (λ i. ended q (end i) (rest i))
+
+    pub part_followed : r.latest.end < length m → refused 13 r.latest.end ≡ answered so_far_of (part_of p m)
+    part_followed h = sym (ap (answered so_far_of) (opened ∙ ap (ended q r.latest.end) (drop_more m r.latest.end 0 h)))
+
+    pub part_ended : length m ≤ r.latest.end → Ok (record { sections = r.sections; last = r.latest.last }) ≡ answered so_far_of (part_of p m)
+    part_ended h = sym (ap (answered so_far_of) (opened ∙ ap (ended q r.latest.end) (drop_all r.latest.end m h)) ∙ ap (λ k. Ok (record { sections = k.sections; last = k.latest.last })) a.reached)
+
+  -- the files
+  abbrev first : Result (Section FileValue) Refusal
+  first = section_at 0x0A file_reads (earlier_names m none) 0 m
+
+  files_first : ends first ≡ ends (section_at 0x0A file_reads [] 0 m)
+  files_first = ap (λ l. ends (section_at 0x0A file_reads l 0 m)) (none-names m)
+
+  pub files_read : (e : SectionEnd) → Ok e ≡ ends first → At FilesPart (record { sections = record { directories = e.end; links = e.end }; latest = e })
+  files_read e h =
+      let s = section_read (section_at 0x0A file_reads [] 0 m) with_files e (h ∙ files_first) in
+      record { reading = with_files s.0; is = s.1; reached = ap (λ (k : SectionEnd). record { sections = record { directories = k.end; links = k.end }; latest = k }) s.2 }
+
+  -- the directories behind the files
+  module _ (r : Reached) (a : At FilesPart r) where
+    abbrev second : Result (Section Value) Refusal
+    second = section_at 0x12 directory_reads (earlier_names m r.sections) r.latest.end (drop r.latest.end m)
+
+    directories_on : up_to Directories m ≡ next second (λ s. Ok (with_directories a.reading s))
+    directories_on =
+        let q = a.reading in
+        let none : [] ≡ q.nodes.directories = ap (λ k. k.nodes.directories) (files q a.is).is in
+        let all : names q.nodes.files ≡ earlier_names m r.sections = sym (append-nil (names q.nodes.files)) ∙ ap (λ l. names q.nodes.files ++ names l) none ∙ earlier FilesPart r a in
+        ap (λ x. next x directories_in) a.is ∙ (λ i. next (section_at 0x12 directory_reads (all i) (end FilesPart r a i) (rest FilesPart r a i)) (λ s. Ok (with_directories q s)))
+
+    pub directories_refused : (e : Refusal) → Err e ≡ ends second → up_to Directories m ≡ Err e
+    directories_refused e h = directories_on ∙ section_refused second (with_directories a.reading) e h
+
+    pub directories_read : (e : SectionEnd) → Ok e ≡ ends second → At Directories (record { sections = record { directories = r.latest.end; links = e.end }; latest = e })
+    directories_read e h =
+        let s = section_read second (with_directories a.reading) e h in
+        record {
+          reading = with_directories a.reading s.0;
+          is = directories_on ∙ s.1;
+          reached = λ i. record { sections = record { directories = end FilesPart r a i; links = (s.2 i).end }; latest = s.2 i };
+        }
+
+  -- the links behind both
+  module _ (r : Reached) (a : At Directories r) where
+    abbrev third : Result (Section (List ℕ)) Refusal
+    third = section_at 0x1A link_reads (earlier_names m r.sections) r.latest.end (drop r.latest.end m)
+
+    links_on : up_to Links m ≡ next third (λ s. Ok (with_links a.reading s))
+    links_on = ap (λ x. next x links_in) a.is ∙ (λ i. next (section_at 0x1A link_reads (earlier Directories r a i) (end Directories r a i) (rest Directories r a i)) (λ s. Ok (with_links a.reading s)))
+
+    pub links_refused : (e : Refusal) → Err e ≡ ends third → up_to Links m ≡ Err e
+    links_refused e h = links_on ∙ section_refused third (with_links a.reading) e h
+
+    pub links_read : (e : SectionEnd) → Ok e ≡ ends third → At Links (record { sections = record { directories = r.sections.directories; links = r.latest.end }; latest = e })
+    links_read e h =
+        let s = section_read third (with_links a.reading) e h in
+        record {
+          reading = with_links a.reading s.0;
+          is = links_on ∙ s.1;
+          reached = λ i. record { sections = record { directories = (a.reached i).sections.directories; links = end Directories r a i }; latest = s.2 i };
+        }
+
+  -- what the directories are refused with, so is each part with them
+  pub one_read : (p : Part) (e : Refusal) → (p ≡ FilesPart → ⊥) → up_to Directories m ≡ Err e → up_to p m ≡ Err e
+  one_read FilesPart e n h = absurd (n refl)
+  one_read Directories e n h = h
+  one_read Links e n h = ap (λ x. next x links_in) h

@@ -1,20 +1,11 @@
 -- The order of names. Assumes nothing.
-use Rattle.std.proofs.Common.{◌≡◌, ℕ, true, false, List, [], ◌∷◌, Decides, sym, refl, ◌∙◌, subst, ⊎_elim, true≢false, arith}
+use Rattle.std.proofs.Common.{◌≡◌, ℕ, true, false, List, [], ◌∷◌, sym, refl, ◌∙◌, subst, ⊎_elim, true≢false, arith}
 use mathlib.Core.Bool.{false≢true}
 use Rattle.std.proofs.lemmas.Slice.Eq.{bytes_eq-Decides}
 use Rattle.std.proofs.lemmas.Bool.{cases_Bool}
 use Rattle.std.proofs.lemmas.Bool.Decides.{nat_tests}
 use Rattle.texts.specs.Order.{before}
 use Rattle.std.specs.Str.{bytes_eq as same}
-
-pub same_decides : (a b : List ℕ) → Decides (same a b) (a ≡ b)
-same_decides = bytes_eq-Decides
-
-pub same_equal : (a b : List ℕ) → same a b ≡ true → a ≡ b
-same_equal a b e = (same_decides a b).0 e
-
-pub same_refl : (a : List ℕ) → same a a ≡ true
-same_refl a = (same_decides a a).1 refl
 
 pub before_trans : (a b c : List ℕ) → before a b ≡ true → before b c ≡ true → before a c ≡ true
 before_trans [] [] c p q = q
@@ -37,13 +28,13 @@ before_total (x ∷ a) (y ∷ b) p q = let more = before_total a b in let here :
 -- a name is not the one that stands before it
 pub before_other : (a b : List ℕ) → before a b ≡ true → same b a ≡ false
 before_other a b p =
-    ⊎_elim (λ e. absurd (true≢false (sym (subst (λ t. before a t ≡ true) (same_equal b a e) p) ∙ before_irrefl a))) (λ e. e) (cases_Bool (same b a))
+    ⊎_elim (λ e. absurd (true≢false (sym (subst (λ t. before a t ≡ true) ((bytes_eq-Decides b a).0 e) p) ∙ before_irrefl a))) (λ e. e) (cases_Bool (same b a))
 
 pub below_other : (a b : List ℕ) → before a b ≡ true → same a b ≡ false
 below_other a b p =
-    ⊎_elim (λ e. absurd (true≢false (sym (subst (λ t. before a t ≡ true) (sym (same_equal a b e)) p) ∙ before_irrefl a))) (λ e. e) (cases_Bool (same a b))
+    ⊎_elim (λ e. absurd (true≢false (sym (subst (λ t. before a t ≡ true) (sym ((bytes_eq-Decides a b).0 e)) p) ∙ before_irrefl a))) (λ e. e) (cases_Bool (same a b))
 
 -- of two names one is before the other, or they are the same
 pub before_else : (a b : List ℕ) → before a b ≡ false → same b a ≡ false → before b a ≡ true
 before_else a b p d =
-    ⊎_elim (λ e. e) (λ e. absurd (true≢false (sym ((same_decides b a).1 (sym (before_total a b p e))) ∙ d))) (cases_Bool (before b a))
+    ⊎_elim (λ e. e) (λ e. absurd (true≢false (sym ((bytes_eq-Decides b a).1 (sym (before_total a b p e))) ∙ d))) (cases_Bool (before b a))

@@ -1,12 +1,14 @@
 -- A node that was found at a place of a message. Assumes nothing.
-use Rattle.std.proofs.Common.{◌≡◌, ℕ, ◌+◌, ◌-◌, ◌≤◌, List, length, get_or, take, drop, Some, None, Ok, Err, Result, sym, refl, ap, ◌∙◌, ⊎_elim, arith, length-take}
+use Rattle.std.proofs.Common.{◌≡◌, ℕ, ◌+◌, ◌-◌, ◌≤◌, List, length, get_or, take, drop, Some, None, Ok, Err, Result, IfOk, sym, refl, ap, ◌∙◌, subst, ⊎_elim, arith, length-take}
 use Rattle.std.proofs.lemmas.List.{drop_all, drop-take, take-take, get_or-drop}
 use Rattle.std.proofs.lemmas.Bool.{cases_lt}
-use Rattle.std.specs.Result.{result_ok}
+use Rattle.std.proofs.lemmas.Result.{err_from_is_err_and}
+use Rattle.std.specs.Result.{result_ok, IsErrAnd}
 use Rattle.wire.specs.declared.field.Span.{Span}
 use Rattle.wire.specs.Fields.{Piece, field_at, spanned}
 use Rattle.wire.specs.Numbers.{form}
-use Rattle.wire.specs.Refusals.{Refusal, next}
+use Rattle.wire.specs.declared.fault.ReadFault.{ReadFault}
+use Rattle.wire.specs.Refusals.{Refusal, refusal_of, reported, next}
 use Rattle.wire.proofs.Fieldings.{fielded, field_back}
 use Rattle.wire.proofs.Finding.{Found, not_ok}
 use Rattle.nodes.specs.Kinds.{part}
@@ -23,6 +25,19 @@ no_field t p q bs e n = go (field_at t q bs) refl
     go : (r : Result Piece Refusal) → field_at t q bs ≡ r → None ≡ result_ok r
     go (Err d) is = refl
     go (Ok x) is = absurd (not_ok (n ∙ ap spanned (elsewhere t q p bs x is)))
+
+-- the refusal that a `?` returns
+pub refused_by : {A : Type 0} (r : Result A ReadFault) (f : ReadFault) → IsErrAnd r (λ e. e ≡ f) → r ≡ Err f
+refused_by r f h = let p = err_from_is_err_and r h in p.1 ∙ ap Err p.2
+
+-- what a reader of a span answered, as the span alone or nothing
+pub read_none : (r : Result Span ReadFault) (x : Result Span Refusal) → None ≡ result_ok r → reported r ≡ x → (e : Refusal) × (Err e ≡ x)
+read_none (Ok s) x n h = absurd (cc)
+read_none (Err f) x n h = (refusal_of f, h)
+
+pub read_some : (r : Result Span ReadFault) (x : Result Span Refusal) (s : Span) (P : Span → Type 0) → Some s ≡ result_ok r → reported r ≡ x → IfOk r P → (Ok s ≡ x) × P s
+read_some (Ok t) x s P n h w = let same : t ≡ s = cc in (ap Ok (sym same) ∙ h, subst P same w)
+read_some (Err f) x s P n h w = absurd (cc)
 
 stopped : {A B : Type 0} (r : Result A Refusal) (f : A → Result B Refusal) → None ≡ result_ok r → None ≡ result_ok (next r f)
 stopped (Err e) f n = refl
@@ -43,18 +58,12 @@ behind-cut m e p =
     (cases_lt e p)
 
 -- a part of it is one of the whole
-cut-part : (m : List ℕ) (e : ℕ) (s : Span) → s.end ≤ e → part (take e m) s ≡ part m s
+pub cut-part : (m : List ℕ) (e : ℕ) (s : Span) → s.end ≤ e → part (take e m) s ≡ part m s
 cut-part m e s h = ap (take (s.end - s.start)) (behind-cut m e s.start) ∙ take-take (s.end - s.start) (e - s.start) (drop s.start m) (omega arith)
 
 module _ (p : ℕ) (m : List ℕ) where
   tagged : front_of (drop p m) ≡ next (field_at (get_or m p 0) 0 (drop p m)) named
   tagged = let e : p + 0 ≡ p = omega arith in ap (λ t. next (field_at t 0 (drop p m)) named) (get_or-drop p m 0 0 ∙ ap (λ n. get_or m n 0) e)
-
-  pub no_node_past : length m ≤ p → None ≡ result_ok (front_of (drop p m))
-  no_node_past h = ap (λ l. result_ok (front_of l)) (sym (drop_all p m h))
-
-  pub no_node : (e : Refusal) → Err e ≡ spanned (field_at (get_or m p 0) p (drop p m)) → None ≡ result_ok (front_of (drop p m))
-  no_node e n = stopped (field_at (get_or m p 0) 0 (drop p m)) named (no_field (get_or m p 0) p 0 (drop p m) e n) ∙ ap result_ok (sym tagged)
 
   module _ (s : Span) (f : Found (get_or m p 0) p m s) where
     opened : front_of (drop p m) ≡ next (field_at 0x0A 0 (drop s.start (take s.end m))) (λ y. Ok (record { name = y.text; rest = drop s.end m }))

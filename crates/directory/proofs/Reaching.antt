@@ -1,19 +1,21 @@
 -- A node read where it lies. Assumes nothing.
-use Rattle.std.proofs.Common.{◌≡◌, ℕ, ◌+◌, ◌-◌, ◌≤◌, Bool, List, length, take, drop, Ok, Err, Result, sym, refl, ap, ◌∙◌, arith, length-drop}
+use Rattle.std.proofs.Common.{◌≡◌, ℕ, ◌+◌, ◌-◌, ◌≤◌, Bool, true, false, List, length, take, drop, Ok, Err, Result, sym, refl, ap, ◌∙◌, arith, length-drop}
 use Rattle.std.proofs.lemmas.List.{length-take-le}
+use Rattle.std.proofs.lemmas.Bool.{cond-true, cond-false}
 use Rattle.texts.specs.Names.{is_name}
+use Rattle.texts.specs.Order.{before}
 use Rattle.texts.specs.Utf8.{is_text}
 use Rattle.wire.specs.declared.field.Span.{Span}
 use Rattle.wire.specs.Fields.{Piece, field_at, span_of, spanned}
-use Rattle.wire.specs.Refusals.{Refusal, next}
+use Rattle.wire.specs.Refusals.{Refusal, refused, next}
 use Rattle.wire.proofs.Fieldings.{went_on, passed}
 use Rattle.wire.proofs.Finding.{not_ok, same_ok, Found, found}
 use Rattle.nodes.specs.Kinds.{part}
-use Rattle.nodes.proofs.Nesting.{cut-part}
 use Rattle.nodes.specs.Names.{name_at, judged_name}
 use Rattle.directory.specs.Sections.{Named, placed, node_at}
 use Rattle.directory.specs.Steps.{Extent, extent, extent_in}
-use Rattle.directory.proofs.Located.{part_cut, unspanned}
+use Rattle.directory.proofs.Located.{unspanned}
+use Rattle.directory.proofs.Places.{behind-cut, cut-part}
 
 -- how long a part is
 pub part_length : (m : List ℕ) (s : Span) → s.start ≤ s.end → s.end ≤ length m → s.start + length (part m s) ≡ s.end
@@ -44,9 +46,9 @@ name_found p m n e = go (name_at p (drop p m)) refl e
         let same : l.piece ≡ y = same_ok (sym l.is ∙ field) in
         record { is = is ∙ sym (ap Ok same) ∙ (λ i. Ok (record { text = sym l.text i; place = sym l.start i; rest = sym l.rest i })) }
 
-module _ {V : Type 0} (t : ℕ) (reads : ℕ → List ℕ → Result V Refusal) (taken : List ℕ → Bool) (prev : List ℕ) (m : List ℕ) (at : ℕ) (s : Span) (f : Found t at m s) (h : s.start ≤ s.end) where
+module _ {V : Type 0} (t : ℕ) (reads : ℕ → List ℕ → Result V Refusal) (taken : List ℕ → Bool) (prev : List ℕ) (m : List ℕ) (at : ℕ) (s : Span) (f : Found t at m s) where
   abbrev cut : List ℕ
-  cut = take (s.end - 0) m
+  cut = take s.end m
 
   abbrev ending : Named V → Result Extent Refusal
   ending n = Ok (record { name = span_of n.name; end = s.end })
@@ -57,7 +59,7 @@ module _ {V : Type 0} (t : ℕ) (reads : ℕ → List ℕ → Result V Refusal) 
   at_field : extent t reads taken prev at (drop at m) ≡ next (next (name_at s.start (drop s.start cut)) judging) ending
   at_field =
       ap (λ r. next r (λ x. next (node_at t reads taken prev x.place x.text) (extent_in t reads taken x))) f.is
-      ∙ (λ i. next (node_at t reads taken prev (sym f.start i) (sym (cut-part m s h ∙ f.text) i)) (λ n. Ok (record { name = span_of n.name; end = sym f.end i })))
+      ∙ (λ i. next (node_at t reads taken prev (sym f.start i) (sym (behind-cut m s.end s.start ∙ f.text) i)) (λ n. Ok (record { name = span_of n.name; end = sym f.end i })))
 
   pub name_refused : (r : Refusal) → Err r ≡ spanned (name_at s.start (drop s.start cut)) → Err r ≡ extent t reads taken prev at (drop at m)
   name_refused r e = sym (at_field ∙ ap (λ x. next (next x judging) ending) (unspanned r (name_at s.start (drop s.start cut)) e))
@@ -70,24 +72,31 @@ module _ {V : Type 0} (t : ℕ) (reads : ℕ → List ℕ → Result V Refusal) 
     at_name =
         at_field
         ∙ ap (λ x. next (next x judging) ending) (name_found s.start cut n g).is
-        ∙ ap (λ x. next (judging (record { text = x; place = n.start; rest = drop n.end cut })) ending) (part_cut m s.end n a b)
+        ∙ ap (λ x. next (judging (record { text = x; place = n.start; rest = drop n.end cut })) ending) (cut-part m s.end n b)
 
-    pub place_refused : (r : Refusal) → Err r ≡ placed prev taken named → Err r ≡ extent t reads taken prev at (drop at m)
+    place_refused : (r : Refusal) → Err r ≡ placed prev taken named → Err r ≡ extent t reads taken prev at (drop at m)
     place_refused r e = sym (at_name ∙ ap (λ x. next (next x (λ y. next (reads (y.place + length y.text) y.rest) (λ v. Ok (record { name = y; value = v })))) ending) (sym e))
 
-    module _ (k : Ok named ≡ placed prev taken named) where
-      at_rest : extent t reads taken prev at (drop at m) ≡ next (next (reads n.end (drop n.end cut)) (λ v. Ok (record { name = named; value = v }))) ending
-      at_rest =
-          at_name
-          ∙ ap (λ x. next (next x (λ y. next (reads (y.place + length y.text) y.rest) (λ v. Ok (record { name = y; value = v })))) ending) (sym k)
-          ∙ ap (λ p. next (next (reads p (drop n.end cut)) (λ v. Ok (record { name = named; value = v }))) ending) (part_length m n a l)
+    pub order_refused : false ≡ before prev (part m n) → refused 17 n.start ≡ extent t reads taken prev at (drop at m)
+    order_refused b = place_refused _ (sym (cond-false (before prev (part m n)) _ _ (sym b)))
 
-      pub rest_refused : (r : Refusal) → Err r ≡ reads n.end (drop n.end cut) → Err r ≡ extent t reads taken prev at (drop at m)
-      rest_refused r e = sym (at_rest ∙ ap (λ x. next (next x (λ v. Ok (record { name = named; value = v }))) ending) (sym e))
+    module _ (above : true ≡ before prev (part m n)) where
+      pub repeat_refused : true ≡ taken (part m n) → refused 18 n.start ≡ extent t reads taken prev at (drop at m)
+      repeat_refused b = place_refused _ (sym (cond-true (before prev (part m n)) _ _ (sym above) ∙ cond-true (taken (part m n)) _ _ (sym b)))
 
-      pub node_read : (v : V) → Ok v ≡ reads n.end (drop n.end cut) → Ok (record { name = n; end = s.end }) ≡ extent t reads taken prev at (drop at m)
-      node_read v e =
-          sym
-          (at_rest
-          ∙ ap (λ x. next (next x (λ v. Ok (record { name = named; value = v }))) ending) (sym e)
-          ∙ ap (λ p. Ok (record { name = record { start = n.start; end = p }; end = s.end })) (part_length m n a l))
+      module _ (free : false ≡ taken (part m n)) where
+        at_rest : extent t reads taken prev at (drop at m) ≡ next (next (reads n.end (drop n.end cut)) (λ v. Ok (record { name = named; value = v }))) ending
+        at_rest =
+            at_name
+            ∙ ap (λ x. next (next x (λ y. next (reads (y.place + length y.text) y.rest) (λ v. Ok (record { name = y; value = v })))) ending) (cond-true (before prev (part m n)) _ _ (sym above) ∙ cond-false (taken (part m n)) _ _ (sym free))
+            ∙ ap (λ p. next (next (reads p (drop n.end cut)) (λ v. Ok (record { name = named; value = v }))) ending) (part_length m n a l)
+
+        pub rest_refused : (r : Refusal) → Err r ≡ reads n.end (drop n.end cut) → Err r ≡ extent t reads taken prev at (drop at m)
+        rest_refused r e = sym (at_rest ∙ ap (λ x. next (next x (λ v. Ok (record { name = named; value = v }))) ending) (sym e))
+
+        pub node_read : (v : V) → Ok v ≡ reads n.end (drop n.end cut) → Ok (record { name = n; end = s.end }) ≡ extent t reads taken prev at (drop at m)
+        node_read v e =
+            sym
+            (at_rest
+            ∙ ap (λ x. next (next x (λ v. Ok (record { name = named; value = v }))) ending) (sym e)
+            ∙ ap (λ p. Ok (record { name = record { start = n.start; end = p }; end = s.end })) (part_length m n a l))

@@ -1,8 +1,10 @@
 -- One node of a section on. Assumes nothing.
-use Rattle.std.proofs.Common.{◌≡◌, ℕ, zero, suc, ◌+◌, ◌-◌, ◌<◌, ◌≤◌, Bool, true, cond, ◌||◌, eqb, List, [], ◌∷◌, ◌++◌, length, get_or, take, drop, Ok, Err, Result, sym, refl, ap, ◌∙◌, ⊎_elim, arith, length-drop}
+use Rattle.std.proofs.Common.{◌≡◌, ℕ, zero, suc, ◌+◌, ◌-◌, ◌<◌, ◌≤◌, Bool, true, false, cond, ◌||◌, eqb, ◌⊎◌, Bor, Option, Some, None, List, [], ◌∷◌, ◌++◌, length, get_or, take, drop, Ok, Err, Result, sym, refl, ap, ◌∙◌, inl, inr, ⊎_elim, arith, length-drop, length-take}
 use mathlib.Core.Bool.{or_assoc}
-use Rattle.std.proofs.lemmas.Bool.{cases_Bool, cond-true, cond-false, eq-eqb, ne_eqb}
-use Rattle.std.proofs.lemmas.List.{drop_more, drop_all, length-take-le}
+use Rattle.std.proofs.lemmas.Bool.{cases_Bool, cond-true, cond-false, eq-eqb, ne_eqb, eqb-true, eqb-false}
+use Rattle.std.proofs.lemmas.List.{drop_more, drop_all}
+use Rattle.std.specs.Option.{option_eq}
+use Rattle.std.specs.Slice.{IsItemAt}
 use Rattle.texts.specs.Order.{before}
 use Rattle.wire.specs.Fields.{Piece, field_at, span_of}
 use Rattle.wire.specs.Refusals.{Refusal, refused, next}
@@ -10,13 +12,12 @@ use Rattle.wire.proofs.Fieldings.{went_on, passed}
 use Rattle.wire.proofs.Finding.{not_ok, same_ok, lies}
 use Rattle.nodes.specs.Kinds.{part}
 use Rattle.nodes.specs.Names.{name_at}
-use Rattle.nodes.proofs.Nesting.{cut-part}
 use Rattle.std.specs.Str.{bytes_eq as same}
 use Rattle.directory.specs.Sections.{Named, Section, among, placed, node_at, section, onto, nothing}
 use Rattle.directory.specs.Regions.{met}
 use Rattle.directory.specs.Steps.{Extent, extent, extent_in, ends}
 use Rattle.directory.proofs.Ascents.{Passed, passed_met}
-use Rattle.directory.proofs.Located.{part_cut}
+use Rattle.directory.proofs.Places.{behind-cut, cut-part}
 use Rattle.directory.proofs.Reaching.{name_field}
 
 -- a span of a length
@@ -27,14 +28,13 @@ spanned-part m x = let e : x.place + length x.text - x.place ≡ length x.text =
 name_lies : (t at : ℕ) (m : List ℕ) (b y : Piece) → field_at t at (drop at m) ≡ Ok b → name_at b.place b.text ≡ Ok y → part m (span_of y) ≡ y.text
 name_lies t at m b y f n =
     let e = b.place + length b.text in
-    let cut = take (e - 0) m in
+    let cut = take e m in
     let lb = lies at m t b f in
-    let inside : b.text ≡ drop b.place cut = lb.text ∙ sym (spanned-part m b) ∙ sym (cut-part m (span_of b) (omega arith)) in
+    let inside : b.text ≡ drop b.place cut = lb.text ∙ sym (spanned-part m b) ∙ sym (behind-cut m e b.place) in
     let ly = lies b.place cut 0x0A y (ap (field_at 0x0A b.place) (sym inside) ∙ name_field b.place b.text y n) in
     let within = ly.within in
-    let all = lb.within in
-    let size = length-take-le (e - 0) m (omega arith) in
-    sym (part_cut m e (span_of y) (omega arith) (omega arith)) ∙ spanned-part cut y ∙ sym ly.text
+    let size = length-take e m in
+    sym (cut-part m e (span_of y) (omega arith)) ∙ spanned-part cut y ∙ sym ly.text
 
 -- a name that may stand where it does is the name judged
 placed_ok : (prev : List ℕ) (taken : List ℕ → Bool) (x y : Piece) → placed prev taken x ≡ Ok y → (before prev x.text ≡ true) × (x ≡ y)
@@ -69,6 +69,19 @@ among-both name (n ∷ ns) ms = or_assoc (same name n) (among name ns) (among na
 pub met-both : (prev name : List ℕ) (fs ds ls rs : List (List ℕ)) → Passed prev fs ls → Passed prev ds rs → before prev name ≡ true → met name ls || met name rs ≡ among name (fs ++ ds)
 met-both prev name fs ds ls rs f d b = (λ i. passed_met prev name fs ls f b i || passed_met prev name ds rs d b i) ∙ among-both name fs ds
 
+-- whether the byte at a place, if there is one, is a tag
+module _ (m : List ℕ) (at t : ℕ) (x : Bor ℕ) (is : x.now ≡ t) where
+  abbrev tags : Option (Bor ℕ) → Bool
+  tags r = option_eq (λ (a b : Bor ℕ). eqb a.now b.now) r (Some x)
+
+  pub tagged : (r : Option (Bor ℕ)) → IsItemAt m at r → true ≡ tags r → (at < length m) × (get_or m at 0 ≡ t)
+  tagged None h e = absurd (cc)
+  tagged (Some y) h e = (h.3.0, sym (h.3.1 0) ∙ eqb-true y.now x.now (sym e) ∙ is)
+
+  pub untagged : (r : Option (Bor ℕ)) → IsItemAt m at r → false ≡ tags r → (length m ≤ at) ⊎ ((at < length m) × (get_or m at 0 ≡ t → ⊥))
+  untagged None h e = inl h.3
+  untagged (Some y) h e = inr (h.3.0, λ d. eqb-false y.now x.now (sym e) (h.3.1 0 ∙ d ∙ sym is))
+
 module _ {V : Type 0} (t : ℕ) (reads : ℕ → List ℕ → Result V Refusal) (taken : List ℕ → Bool) where
   stops : (f : ℕ) (prev : Piece) (p b : ℕ) (bs : List ℕ) → (b ≡ t → ⊥) → section t reads taken f prev p (b ∷ bs) ≡ nothing prev p (b ∷ bs)
   stops zero prev p b bs n = refl
@@ -79,11 +92,14 @@ module _ {V : Type 0} (t : ℕ) (reads : ℕ → List ℕ → Result V Refusal) 
   stops_empty (suc f) prev p = refl
 
   module _ (m : List ℕ) (at : ℕ) (f : ℕ) (prev : Piece) where
-    pub stop_at_end : length m ≤ at → ends (section t reads taken f prev at (drop at m)) ≡ Ok (record { last = span_of prev; end = at })
+    stop_at_end : length m ≤ at → ends (section t reads taken f prev at (drop at m)) ≡ Ok (record { last = span_of prev; end = at })
     stop_at_end h = ap ends (ap (section t reads taken f prev at) (drop_all at m h) ∙ stops_empty f prev at)
 
-    pub stop_at_other : at < length m → (get_or m at 0 ≡ t → ⊥) → ends (section t reads taken f prev at (drop at m)) ≡ Ok (record { last = span_of prev; end = at })
+    stop_at_other : at < length m → (get_or m at 0 ≡ t → ⊥) → ends (section t reads taken f prev at (drop at m)) ≡ Ok (record { last = span_of prev; end = at })
     stop_at_other h n = ap ends (ap (section t reads taken f prev at) (drop_more m at 0 h) ∙ stops f prev at _ _ n)
+
+    pub stop_at : (length m ≤ at) ⊎ ((at < length m) × (get_or m at 0 ≡ t → ⊥)) → ends (section t reads taken f prev at (drop at m)) ≡ Ok (record { last = span_of prev; end = at })
+    stop_at = ⊎_elim (λ h. stop_at_end h) (λ h. stop_at_other h.0 h.1)
 
     -- what goes on behind a field
     abbrev step : ℕ → Piece → Result (Section V) Refusal

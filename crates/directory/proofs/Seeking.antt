@@ -1,15 +1,12 @@
 -- A name sought in a region of nodes. Assumes nothing.
-use Rattle.std.proofs.Common.{◌≡◌, ℕ, ◌-◌, ◌≤◌, min, Bool, List, [], ◌∷◌, length, take, drop, Some, None, Decides, sym, ap, ◌∙◌, ⊎_elim, true≢false, arith, length-drop, length-take}
+use Rattle.std.proofs.Common.{◌≡◌, ℕ, ◌-◌, ◌≤◌, min, List, [], ◌∷◌, length, take, drop, Some, None, sym, ap, ◌∙◌, ⊎_elim, arith, length-drop, length-take}
 use Rattle.std.proofs.lemmas.List.{take_all}
-use Rattle.std.proofs.lemmas.Bool.{cases_Bool, cases_lt}
+use Rattle.std.proofs.lemmas.Bool.{cases_lt}
 use Rattle.std.specs.Result.{result_ok}
 use Rattle.wire.specs.declared.field.Span.{Span}
 use Rattle.nodes.specs.Kinds.{part}
-use Rattle.directory.specs.declared.region.NodePlace.{NodePlace}
-use Rattle.directory.specs.Regions.{front_in, front_of, names_up_to, names_in, past, first, met}
-use Rattle.std.specs.Str.{bytes_eq as same}
+use Rattle.directory.specs.Regions.{front_of, names_up_to, names_in, past, first, met}
 use Rattle.directory.proofs.Fronts.{none_there, one_there}
-use Rattle.directory.proofs.Orders.{same_decides}
 use Rattle.directory.proofs.Places.{behind-cut}
 
 -- a region of a message, where the message is cut at the region's end
@@ -28,17 +25,8 @@ module _ (m : List ℕ) (e p : ℕ) where
   pub none_here : None ≡ result_ok (front_of (drop p (take e m))) → names_up_to (length m) (drop p (take e m)) ≡ []
   none_here = none_there (length m) (drop p (take e m)) few
 
-  pub one_here : (n : NodePlace) → Some (front_in (take e m) n) ≡ result_ok (front_of (drop p (take e m)))
-      → names_up_to (length m) (drop p (take e m)) ≡ part (take e m) n.name ∷ names_up_to (length m) (drop n.end (take e m))
-  one_here n = one_there (length m) (drop p (take e m)) (front_in (take e m) n) few
-
--- what decides whether two names are equal is whether they are the same
-pub decided : (a b : List ℕ) (r : Bool) → Decides r (a ≡ b) → r ≡ same b a
-decided a b r d =
-    ⊎_elim
-    (λ t. t ∙ sym ((same_decides b a).1 (sym (d.0 t))))
-    (λ f. f ∙ ⊎_elim (λ t. absurd (true≢false (sym (d.1 (sym ((same_decides b a).0 t))) ∙ f))) sym (cases_Bool (same b a)))
-    (cases_Bool r)
+  pub one_here : (name rest : List ℕ) → Some (record { name = name; rest = rest }) ≡ result_ok (front_of (drop p (take e m))) → names_up_to (length m) (drop p (take e m)) ≡ name ∷ names_up_to (length m) rest
+  one_here name rest = one_there (length m) (drop p (take e m)) (record { name = name; rest = rest }) few
 
 -- from a region's start to a place only names before the name were passed
 module _ (m name : List ℕ) (s : Span) (e p : ℕ) (ends : e ≡ min s.end (length m))

@@ -1,21 +1,18 @@
 -- A Directory and its encoding determine each other. Assumes nothing.
-use Rattle.std.proofs.Common.{◌≡◌, ℕ, ◌+◌, ◌≤◌, leb, List, [], ◌++◌, length, Ok, Err, Result, sym, refl, ap, ◌∙◌, subst, append-nil, arith, length-append}
+use Rattle.std.proofs.Common.{◌≡◌, ℕ, ◌+◌, ◌≤◌, leb, List, [], ◌++◌, length, Ok, sym, ap, ◌∙◌, subst, append-nil, arith, length-append}
 use Rattle.std.proofs.lemmas.Bool.{cond-true, le-leb, leb-true}
 use Rattle.digest.specs.Digests.{Value}
-use Rattle.wire.specs.Refusals.{Refusal, refused, next}
+use Rattle.wire.specs.Refusals.{refused, next}
 use Rattle.wire.proofs.Fieldings.{went_on, passed}
-use Rattle.wire.proofs.Finding.{not_ok, same_ok}
+use Rattle.wire.proofs.Finding.{same_ok}
 use Rattle.nodes.specs.Kinds.{FileValue, file_reads, file_writes, directory_reads, directory_writes, link_reads, link_writes, SoundFile, SoundDigest, SoundLink}
 use Rattle.nodes.specs.Laws.{ended_all, file_accepts, file_returns, directory_accepts, directory_returns, link_accepts, link_returns}
 use Rattle.directory.specs.Canonical.{section_bytes, encoding, Canonical, nodes_of, OnlyCanonicalIsAccepted, CanonicalIsReadBack, OneEncodingOneDirectory}
 use Rattle.directory.specs.Directories.{Reading, with_files, files_in, with_directories, directories_in, with_links, links_in, up_to, closed, directory_of, answered}
 use Rattle.directory.specs.declared.part.Part.TheVariants.{Links}
 use Rattle.directory.specs.Sections.{Section, names, nobody, section_at}
+use Rattle.directory.proofs.Joining.{was}
 use Rattle.directory.proofs.OneSection.{Stops, stops, accepted, returned}
-
-was_answered : {A : Type 0} (f : Reading → A) (r : Result Reading Refusal) (a : A) → answered f r ≡ Ok a → (x : Reading) × (r ≡ Ok x) × (f x ≡ a)
-was_answered f (Ok x) a e = (x, refl, same_ok e)
-was_answered f (Err d) a e = absurd (not_ok e)
 
 -- the three sections that were read one behind the other in m, and all that was read
 pub record Sectioned (m : List ℕ) (r : Reading) : Type 0 where
@@ -40,7 +37,7 @@ sectioned m r e =
 
 pub only_canonical_is_accepted : OnlyCanonicalIsAccepted
 only_canonical_is_accepted m d e =
-    let all = was_answered nodes_of (directory_of m) d e in
+    let all = was nodes_of (directory_of m) d e in
     let sized = passed (leb (length m) 16777216) _ _ all.0 all.1 in
     let small = leb-true (length m) 16777216 sized.0 in
     let up = went_on (up_to Links m) closed all.0 sized.1 in

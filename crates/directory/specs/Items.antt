@@ -8,7 +8,6 @@ use Rattle.wire.specs.Refusals.{Refusal, refusal_of, refused, next}
 use Rattle.nodes.specs.Kinds.{FileValue, file_reads, directory_reads, link_finds, link_places, file_value, directory_value, link_value, part}
 use Rattle.directory.specs.declared.find.Kind.{Kind}
 use Rattle.directory.specs.declared.find.Kind.TheVariants.{File, Directory, Link}
-use Rattle.directory.specs.declared.find.Fields.{Fields}
 use Rattle.directory.specs.declared.find.FoundNode.{FoundNode}
 use Rattle.directory.specs.Canonical.{nodes_of}
 use Rattle.directory.specs.Directories.{Nodes, directory_of, answered}
@@ -46,22 +45,22 @@ item_of m name (File n) = file (record { name = part m name; rest = file_value m
 item_of m name (Directory n) = directory (record { name = part m name; rest = directory_value m n })
 item_of m name (Link n) = link (record { name = part m name; rest = link_value m n })
 
-abbrev pub found_in : List ℕ → Result FoundNode ReadFault → Result Found Refusal
+abbrev pub found_in : List ℕ → Result (FoundNode Kind) ReadFault → Result Found Refusal
 found_in m (Ok n) = Ok (record { item = item_of m n.name n.kind; name = n.name; end = n.end })
 found_in m (Err f) = Err (refusal_of f)
 
 -- and the place of a link's target: its field stands behind the name, in the node
-abbrev pub TargetIn : List ℕ → FoundNode → Kind → Type 0
+abbrev pub TargetIn : List ℕ → FoundNode Kind → Kind → Type 0
 TargetIn m n (File x) = Unit {0}
 TargetIn m n (Directory x) = Unit {0}
 TargetIn m n (Link x) = link_places n.name.end (drop n.name.end (take n.end m)) x
 
-abbrev pub TargetPlace : List ℕ → FoundNode → Type 0
+abbrev pub TargetPlace : List ℕ → FoundNode Kind → Type 0
 TargetPlace m n = TargetIn m n n.kind
 
 -- what a reader of one kind answers, whose values in a message are these
-abbrev pub found_of : {K V : Type 0} → (List ℕ → K → V) → (Node V → Item) → List ℕ → Result (Fields K) ReadFault → Result Found Refusal
-found_of value item m (Ok n) = Ok (record { item = item (record { name = part m n.name; rest = value m n.rest }); name = n.name; end = n.end })
+abbrev pub found_of : {K V : Type 0} → (List ℕ → K → V) → (Node V → Item) → List ℕ → Result (FoundNode K) ReadFault → Result Found Refusal
+found_of value item m (Ok n) = Ok (record { item = item (record { name = part m n.name; rest = value m n.kind }); name = n.name; end = n.end })
 found_of value item m (Err f) = Err (refusal_of f)
 
 -- the nodes found from p on, at most k, each where the one before it ends

@@ -1,11 +1,11 @@
 -- The names in a part of a message that holds nodes of any kind.
 use Rattle.std.specs.Prelude.{◌≡◌, ℕ, zero, suc, Bool, true, false, cond, List, [], ◌∷◌, length, drop, Ok, Err, Result, slice_index}
+use Rattle.std.specs.Borrow.{Bor}
 use Rattle.texts.specs.Order.{before}
 use Rattle.wire.specs.declared.field.Span.{Span}
 use Rattle.wire.specs.Fields.{field_at}
 use Rattle.wire.specs.Refusals.{Refusal, next}
 use Rattle.nodes.specs.Kinds.{part}
-use Rattle.directory.specs.declared.region.NodePlace.{NodePlace}
 use Rattle.std.specs.Str.{bytes_eq as same}
 
 -- the node at the front, of any tag: its name, which is the field 0A, and what follows the node
@@ -16,9 +16,9 @@ pub record Front : Type 0 where
 abbrev pub front_of : List ℕ → Result Front Refusal
 front_of bs = next (field_at (slice_index bs 0) 0 bs) (λ x. next (field_at 0x0A 0 x.text) (λ y. Ok (record { name = y.text; rest = x.rest })))
 
--- the node that lies in a message
-abbrev pub front_in : List ℕ → NodePlace → Front
-front_in m n = record { name = part m n.name; rest = drop n.end m }
+-- the node of this name that ends there in a message
+abbrev pub front_in : List ℕ → Bor (List ℕ) × ℕ → Front
+front_in m n = record { name = n.0.now; rest = drop n.1 m }
 
 -- the names of the nodes that stand one behind the other, at most k, up to what is no node
 abbrev pub name_then : (List ℕ → List (List ℕ)) → Result Front Refusal → List (List ℕ)

@@ -1,17 +1,17 @@
 -- What the reader's own functions promise each other.
-use Rattle.std.specs.Prelude.{◌≡◌, ℕ, ◌+◌, ◌≤◌, Bool, ◌||◌, List, [], ◌++◌, length, Ok, Err, Result}
+use Rattle.std.specs.Prelude.{◌≡◌, ℕ, ◌+◌, Bool, ◌||◌, List, [], ◌++◌, length, Ok, Err, Result}
 use Rattle.wire.specs.declared.fault.ReadFault.{ReadFault}
 use Rattle.wire.specs.declared.field.Span.{Span}
 use Rattle.wire.specs.Fields.{Piece, field_at, span_of}
 use Rattle.wire.specs.Refusals.{Refusal, refusal_of, next}
-use Rattle.nodes.specs.Kinds.{part}
 use Rattle.directory.specs.declared.reader.Reached.{Reached}
-use Rattle.directory.specs.declared.section.Earlier.{Earlier}
-use Rattle.directory.specs.declared.section.NodeEnd.{NodeEnd}
+use Rattle.directory.specs.declared.progress.Progress.{Progress}
+use Rattle.directory.specs.declared.region.Earlier.{Earlier}
+use Rattle.directory.specs.declared.part.Sections.{Sections}
 use Rattle.directory.specs.declared.section.SectionEnd.{SectionEnd}
-use Rattle.directory.specs.Directories.{Reading, so_far_of}
+use Rattle.directory.specs.Directories.{Reading}
 use Rattle.directory.specs.Regions.{names_in, Ascending, past, met}
-use Rattle.directory.specs.Sections.{Named, Section, placed, node_at}
+use Rattle.directory.specs.Sections.{Named, Section, node_at}
 
 -- whether a name is met in the earlier sections
 abbrev pub met_in : List ℕ → Earlier → List ℕ → Bool
@@ -21,29 +21,13 @@ met_in m e name = met name (names_in m e.files) || met name (names_in m e.direct
 abbrev pub PassedTo : List ℕ → List ℕ → Earlier → Earlier → Type 0
 PassedTo m name e now = (names_in m now.files ≡ past name (names_in m e.files)) × (names_in m now.directories ≡ past name (names_in m e.directories))
 
--- a part of the message m
-abbrev pub Within : List ℕ → Span → Type 0
-Within m s = (s.start ≤ s.end) × (s.end ≤ length m)
-
--- what was judged, or the refusal
-abbrev pub judged : {A : Type 0} → Piece → Result A ReadFault → Result Piece Refusal
-judged x (Ok a) = Ok x
-judged x (Err f) = Err (refusal_of f)
-
--- an answer on the name at a span, behind the one at another, whatever follows it
-abbrev pub Placed : {A : Type 0} → List ℕ → Span → Span → Earlier → Result A ReadFault → Type 0
-Placed m last name e r =
-    (rest : List ℕ)
-    → judged (record { text = part m name; place = name.start; rest = rest }) r
-    ≡ placed (part m last) (met_in m e) (record { text = part m name; place = name.start; rest = rest })
-
 -- where a node's name is, and where the node ends
 pub record Extent : Type 0 where
   pub name : Span
   pub end : ℕ
 
-abbrev pub extent_of : Result NodeEnd ReadFault → Result Extent Refusal
-extent_of (Ok n) = Ok (record { name = n.name; end = n.end })
+abbrev pub extent_of : Result Progress ReadFault → Result Extent Refusal
+extent_of (Ok c) = Ok (record { name = c.last; end = c.at })
 extent_of (Err f) = Err (refusal_of f)
 
 module _ {V : Type 0} (tag : ℕ) (reads : ℕ → List ℕ → Result V Refusal) (taken : List ℕ → Bool) where
@@ -53,10 +37,6 @@ module _ {V : Type 0} (tag : ℕ) (reads : ℕ → List ℕ → Result V Refusal
   abbrev pub extent : List ℕ → ℕ → List ℕ → Result Extent Refusal
   extent prev p bs = next (field_at tag p bs) (λ x. next (node_at tag reads taken prev x.place x.text) (extent_in x))
 
--- where the sections read so far are, and where they end
-abbrev pub reached_of : Reading → Reached
-reached_of r = record { so_far = so_far_of r; end = r.place }
-
 -- where a section's last name is, and where the section ends
 abbrev pub end_of : {V : Type 0} → Section V → SectionEnd
 end_of s = record { last = s.last; end = s.place }
@@ -65,10 +45,21 @@ abbrev pub ends : {V : Type 0} → Result (Section V) Refusal → Result Section
 ends (Ok s) = Ok (end_of s)
 ends (Err e) = Err e
 
--- the names in both earlier sections
-abbrev pub earlier_names : List ℕ → Earlier → List (List ℕ)
-earlier_names m e = names_in m e.files ++ names_in m e.directories
+-- where the sections read so far are, and where the latest ends
+abbrev pub reached_of : Reading → Reached
+reached_of r = record { sections = r.sections; latest = record { last = r.last; end = r.place } }
+
+-- where the files and the directories are, of the sections before one
+abbrev pub files_at : Sections → Span
+files_at s = record { start = 0; end = s.directories }
+
+abbrev pub directories_at : Sections → Span
+directories_at s = record { start = s.directories; end = s.links }
+
+-- the names in both
+abbrev pub earlier_names : List ℕ → Sections → List (List ℕ)
+earlier_names m s = names_in m (files_at s) ++ names_in m (directories_at s)
 
 -- in both they ascend
-abbrev pub Sorted : List ℕ → Earlier → Type 0
-Sorted m e = Ascending [] (names_in m e.files) × Ascending [] (names_in m e.directories)
+abbrev pub Sorted : List ℕ → Sections → Type 0
+Sorted m s = Ascending [] (names_in m (files_at s)) × Ascending [] (names_in m (directories_at s))

@@ -3,6 +3,7 @@
 
 mod find;
 mod part;
+mod progress;
 mod reader;
 mod region;
 mod section;

@@ -1,100 +1,22 @@
-ghost use Rattle.std.specs.Prelude.{◌≡◌, ◌≤◌, length, Ok};
+ghost use Rattle.std.specs.Prelude.{◌≡◌, ◌≤◌, length};
 ghost use Rattle.wire.specs.Refusals.{reported};
-ghost use Rattle.directory.specs.declared.part.Part.TheVariants.{Directories as DirectoriesPart, Links as LinksPart};
 ghost use Rattle.directory.specs.Canonical.{OnlyCanonicalIsAccepted, CanonicalIsReadBack, OneEncodingOneDirectory};
-ghost use Rattle.directory.specs.Directories.{files_in, up_to, part_of, directory_of, answered, so_far_of, sections_of};
+ghost use Rattle.directory.specs.Directories.{up_to, part_of, directory_of, answered, so_far_of, sections_of};
 ghost use Rattle.directory.specs.Steps.{reached_of};
 
 use crate::part::{Part, Sections, SoFar};
-use crate::section::{Earlier, read_section};
+use crate::section::{SectionEnd, read_section};
 use nodes::{DirectoryNode, FileNode, LinkNode};
-use wire::{ReadCase, ReadFault, Span};
+use wire::{ReadCase, ReadFault};
 
 // The largest Directory, in bytes.
 const MAX_BYTES: usize = 16_777_216;
 
-// What was read up to some section, and where that ends.
+// What was read up to some section: where the sections are, and where the latest ends.
 #[derive(Clone, Copy)]
 pub struct Reached {
-    pub so_far: SoFar,
-    pub end: usize,
-}
-
-// The files, from the first byte on.
-fn read_files(bytes: &[u8]) -> Result<Reached, ReadFault>
-    ensures { reported result ≡ answered reached_of (files_in bytes.now) }
-{
-    let nothing = Span { start: 0, end: 0 };
-    let earlier = Earlier {
-        files: nothing,
-        directories: nothing,
-    };
-    let section = read_section::<FileNode>(bytes, 0, earlier)?;
-    let sections = Sections {
-        directories: section.end,
-        links: section.end,
-    };
-    Ok(Reached {
-        so_far: SoFar {
-            sections,
-            last: section.last,
-        },
-        end: section.end,
-    })
-}
-
-// The directories behind the files.
-fn read_directories(bytes: &[u8], files: Reached) -> Result<Reached, ReadFault>
-    requires small { length bytes.now ≤ 16777216 }
-    requires files { answered reached_of (files_in bytes.now) ≡ Ok files }
-    ensures { reported result ≡ answered reached_of (up_to DirectoriesPart bytes.now) }
-{
-    let Reached { end, .. } = files;
-    let earlier = Earlier {
-        files: Span { start: 0, end },
-        directories: Span { start: 0, end: 0 },
-    };
-    let section = read_section::<DirectoryNode>(bytes, end, earlier)?;
-    let sections = Sections {
-        directories: end,
-        links: section.end,
-    };
-    Ok(Reached {
-        so_far: SoFar {
-            sections,
-            last: section.last,
-        },
-        end: section.end,
-    })
-}
-
-// The links behind both.
-fn read_links(bytes: &[u8], both: Reached) -> Result<Reached, ReadFault>
-    requires small { length bytes.now ≤ 16777216 }
-    requires both { answered reached_of (up_to DirectoriesPart bytes.now) ≡ Ok both }
-    ensures { reported result ≡ answered reached_of (up_to LinksPart bytes.now) }
-{
-    let Reached { so_far, end } = both;
-    let middle = so_far.sections.directories;
-    let earlier = Earlier {
-        files: Span {
-            start: 0,
-            end: middle,
-        },
-        directories: Span { start: middle, end },
-    };
-    let section = read_section::<LinkNode>(bytes, end, earlier)?;
-    let sections = Sections {
-        directories: middle,
-        links: end,
-    };
-    Ok(Reached {
-        so_far: SoFar {
-            sections,
-            last: section.last,
-        },
-        end: section.end,
-    })
+    pub sections: Sections,
+    pub latest: SectionEnd,
 }
 
 // The sections up to one of them.
@@ -102,15 +24,37 @@ fn read_up_to(bytes: &[u8], part: Part) -> Result<Reached, ReadFault>
     requires { length bytes.now ≤ 16777216 }
     ensures { reported result ≡ answered reached_of (up_to part bytes.now) }
 {
-    let files = read_files(bytes)?;
+    let nothing = Sections {
+        directories: 0,
+        links: 0,
+    };
+    let files = read_section::<FileNode>(bytes, 0, nothing)?;
+    let sections = Sections {
+        directories: files.end,
+        links: files.end,
+    };
     if part == Part::Files {
-        return Ok(files);
+        return Ok(Reached {
+            sections,
+            latest: files,
+        });
     }
-    let both = read_directories(bytes, files)?;
+    let directories = read_section::<DirectoryNode>(bytes, files.end, sections)?;
+    let sections = Sections {
+        links: directories.end,
+        ..sections
+    };
     if part == Part::Directories {
-        return Ok(both);
+        return Ok(Reached {
+            sections,
+            latest: directories,
+        });
     }
-    read_links(bytes, both)
+    let links = read_section::<LinkNode>(bytes, directories.end, sections)?;
+    Ok(Reached {
+        sections,
+        latest: links,
+    })
 }
 
 // Reads a Directory that goes no further than one of its sections.
@@ -123,14 +67,15 @@ pub fn read_part(bytes: &[u8], part: Part) -> Result<SoFar, ReadFault>
             place: 0,
         });
     }
-    let Reached { so_far, end } = read_up_to(bytes, part)?;
+    let Reached { sections, latest } = read_up_to(bytes, part)?;
+    let SectionEnd { last, end } = latest;
     if end < bytes.len() {
         return Err(ReadFault {
             case: ReadCase::Tag,
             place: end,
         });
     }
-    Ok(so_far)
+    Ok(SoFar { sections, last })
 }
 
 // Reads a Directory: where its sections are.
@@ -140,5 +85,5 @@ pub fn read_directory(bytes: &[u8]) -> Result<Sections, ReadFault>
     ensures returned { CanonicalIsReadBack }
     ensures single { OneEncodingOneDirectory }
 {
-    Ok(read_part(bytes, Part::Links)?.sections)
+    read_part(bytes, Part::Links).map(|so_far| so_far.sections)
 }

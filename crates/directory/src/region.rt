@@ -1,82 +1,67 @@
-ghost use Rattle.std.specs.Prelude.{◌≡◌, ◌<◌, ◌≤◌, length, drop, IfSome};
+ghost use Rattle.std.specs.Prelude.{◌≡◌, ◌<◌, ◌≤◌, length, drop, is_none, IfSome};
 ghost use Rattle.std.specs.Option.{option_map};
 ghost use Rattle.std.specs.Result.{result_ok};
 ghost use Rattle.directory.specs.Regions.{front_in, front_of, names_in, past, met};
+ghost use Rattle.directory.specs.Steps.{PassedTo, met_in};
 
 use texts::precedes;
 use wire::{Span, read_field};
 
-// A name sought among nodes whose names ascend: where those are that do not stand before it, and whether it is the first of them.
-#[derive(Clone, Copy)]
-pub struct Sought {
-    pub region: Span,
-    pub met: bool,
-}
-
-// A node among others: where its name is, and where it ends.
-#[derive(Clone, Copy)]
-struct NodePlace {
-    name: Span,
-    end: usize,
-}
-
-// The node of any kind at a place of a message.
-fn node_front(message: &[u8], at: usize) -> Option<NodePlace>
+// The node of any kind at a place of a message: its name, and where it ends.
+fn node_front(message: &[u8], at: usize) -> Option<(&[u8], usize)>
     ensures value { option_map (front_in message.now) result ≡ result_ok (front_of (drop at message.now)) }
-    ensures within { IfSome result (λ n. (at < n.end) × (n.end ≤ length message.now) × (n.name.start ≤ n.name.end) × (n.name.end ≤ n.end)) }
+    ensures onward { IfSome result (λ n. at < n.1) }
+    ensures within { IfSome result (λ n. n.1 ≤ length message.now) }
 {
-    if at >= message.len() {
-        return None;
-    }
-    let Ok(Span { start, end }) = read_field(message, at, message[at]) else {
-        return None;
-    };
-    let Ok(name) = read_field(&message[..end], start, 0x0A) else {
-        return None;
-    };
-    Some(NodePlace { name, end })
+    let tag = *message.get(at)?;
+    let node = read_field(message, at, tag).ok()?;
+    let name = read_field(&message[..node.end], node.start, 0x0A).ok()?;
+    Some((&message[name.start..name.end], node.end))
 }
 
-// Passes the nodes of a region whose names stand before a name.
-pub fn seek(message: &[u8], region: Span, name: &[u8]) -> Sought
-    ensures left { names_in message.now result.region ≡ past name.now (names_in message.now region) }
-    ensures met { result.met ≡ met name.now (names_in message.now region) }
+// What is left of a region of nodes once those are passed whose names stand before a name, or nothing where the next has this name.
+fn pass(message: &[u8], region: Span, name: &[u8]) -> Option<Span>
+    ensures left { IfSome result (λ r. names_in message.now r ≡ past name.now (names_in message.now region)) }
+    ensures met { is_none result ≡ met name.now (names_in message.now region) }
 {
-    let Span { start, end: limit } = region;
-    let end = limit.min(message.len());
+    let end = region.end.min(message.len());
     let nodes = &message[..end];
-    let mut at = start;
-    while at < end {
-        let Some(
-            NodePlace {
-                name: Span {
-                    start: first,
-                    end: last,
-                },
-                end: behind,
-            },
-        ) = node_front(nodes, at)
-        else {
-            break;
-        };
-        let other = &nodes[first..last];
+    let mut at = region.start;
+    while let Some((other, behind)) = node_front(nodes, at) {
         if !precedes(other, name) {
-            return Sought {
-                region: Span { start: at, end },
-                met: other == name,
-            };
+            if name == other {
+                return None;
+            }
+            break;
         }
         at = behind;
     }
-    Sought {
-        region: Span { start: at, end },
-        met: false,
-    }
+    Some(Span { start: at, end })
 }
 
 // Whether a name is one of those in a region of nodes whose names ascend.
 pub fn has_name(message: &[u8], region: Span, name: &[u8]) -> bool
     ensures { result ≡ met name.now (names_in message.now region) }
 {
-    seek(message, region, name).met
+    pass(message, region, name).is_none()
+}
+
+// Where the names of earlier sections are that have not been passed.
+#[derive(Clone, Copy)]
+pub struct Earlier {
+    pub files: Span,
+    pub directories: Span,
+}
+
+impl Earlier {
+    // What is left once the names before a name are passed, or nothing where one of the sections has this name.
+    pub fn pass(self, message: &[u8], name: &[u8]) -> Option<Earlier>
+        ensures left { IfSome result (PassedTo message.now name.now self) }
+        ensures met { is_none result ≡ met_in message.now self name.now }
+    {
+        Some(Earlier {
+            files: pass(message, self.files, name)?,
+            directories: pass(message, self.directories, name)?,
+        })
+    }
 }

@@ -7,6 +7,7 @@ ghost use Rattle.directory.specs.Directories.{directory_of};
 use directory::read_directory;
 
 // The number that bytes are refused with, and 0 where they are a canonical Directory.
+// A number and no Result: C has none.
 #[unsafe(no_mangle)]
 pub extern "C" fn directory_refusal(bytes: &[u8]) -> u8
     ensures { MatchResult (directory_of bytes.now) (λ _. result ≡ 0) (λ e. result ≡ e.number) }

@@ -1,5 +1,4 @@
 use crate::rows::{check_accepted, refusal, spelled};
-use directory::read_directory;
 use std::test::Fail;
 
 #[test]
@@ -134,77 +133,68 @@ fn sections_together(rt: HostRuntime) -> Result<(), Fail> {
 // Texts of the greatest length, and of one byte more: what stands before, the text, what stands behind, and the refusal.
 #[test]
 fn long_texts(rt: HostRuntime) -> Result<(), Fail> {
-    let rows: [(&[u8], &[u8], &[u8], u8, usize); 9] = [
+    let rows: [(&[u8], &[u8], &[u8], Option<(u8, usize)>); 9] = [
         // Names: tag 0, length 1, 0A 3, length 4, name from 6 on. A file's message has 326 bytes, a link's 261.
         (
             b"\x0A\xC6\x02\x0A\xFF\x01",
             &[b'n'; 255],
             b"\x12\x42\x0A\x40#",
-            0,
-            0,
+            None,
         ),
         (
             b"\x12\xC6\x02\x0A\xFF\x01",
             &[b'n'; 255],
             b"\x12\x42\x0A\x40#",
-            0,
-            0,
+            None,
         ),
         (
             b"\x1A\x85\x02\x0A\xFF\x01",
             &[b'n'; 255],
             b"\x12\x01a",
-            0,
-            0,
+            None,
         ),
         (
             b"\x0A\xC7\x02\x0A\x80\x02",
             &[b'n'; 256],
             b"\x12\x42\x0A\x40#",
-            16,
-            6,
+            Some((16, 6)),
         ),
         (
             b"\x12\xC7\x02\x0A\x80\x02",
             &[b'n'; 256],
             b"\x12\x42\x0A\x40#",
-            16,
-            6,
+            Some((16, 6)),
         ),
         (
             b"\x1A\x86\x02\x0A\x80\x02",
             &[b'n'; 256],
             b"\x12\x01a",
-            16,
-            6,
+            Some((16, 6)),
         ),
         // Targets: length 1, 0A 3, length 4, name 5, 12 6, length 7, target from 9 on. The message has 4102 bytes.
         (
             b"\x1A\x86\x20\x0A\x01b\x12\x80\x20",
             &[b't'; 4096],
             b"",
-            0,
-            0,
+            None,
         ),
         (
             b"\x1A\x87\x20\x0A\x01b\x12\x81\x20",
             &[b't'; 4097],
             b"",
-            19,
-            9,
+            Some((19, 9)),
         ),
         // 4095 characters and the first byte of one that is cut off.
         (
             b"\x1A\x86\x20\x0A\x01b\x12\x80\x20",
             &[b't'; 4095],
             b"\xC3",
-            15,
-            9,
+            Some((15, 9)),
         ),
     ];
-    for (before, text, behind, number, place) in rows {
-        let bytes = spelled(rt.alloc(), [before, text, behind])?;
-        assert_eq!(rt; refusal(read_directory(bytes.as_slice())), (number, place));
+    for (before, text, behind, expected) in rows {
+        let bytes = spelled(rt.alloc(), &[before, text, behind])?;
+        assert_eq!(rt; refusal(bytes.as_slice()), expected);
     }
     Ok(())
 }

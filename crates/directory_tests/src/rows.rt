@@ -1,4 +1,4 @@
-use directory::{Sections, read_directory};
+use directory::read_directory;
 use std::alloc::Global;
 use std::process::Abort;
 use std::test::Fail;
@@ -9,10 +9,10 @@ const EMPTY: &[u8] = b"e3b0c44298fc1c149afbf4c8996fb92427ae41e4649b934ca495991b7
 const CUT: &[u8] = b"e3b0c44298fc1c149afbf4c8996fb92427ae41e4649b934ca495991b7852b85";
 
 // The parts one behind the other, where `#` stands for the 64 characters of the hash text of no bytes, and `%` for its first 63.
-pub fn spelled(heap: Global, parts: [&[u8]; 3]) -> Result<Vec<u8>, Fail> {
+pub fn spelled(heap: Global, parts: &[&[u8]]) -> Result<Vec<u8>, Fail> {
     let mut bytes = Vec::new(heap);
     for part in parts {
-        for b in part {
+        for b in *part {
             match *b {
                 b'#' => bytes.extend_from_slice(EMPTY)?,
                 b'%' => bytes.extend_from_slice(CUT)?,
@@ -23,12 +23,14 @@ pub fn spelled(heap: Global, parts: [&[u8]; 3]) -> Result<Vec<u8>, Fail> {
     Ok(bytes)
 }
 
-// The number and the place of a refusal, zeros where there is none.
-pub fn refusal(answer: Result<Sections, ReadFault>) -> (u8, usize) {
-    match answer {
-        Ok(_) => (0, 0),
-        Err(fault) => (fault.case.number(), fault.place),
-    }
+// The number and the place of a refusal.
+pub fn numbered(fault: ReadFault) -> (u8, usize) {
+    (fault.case.number(), fault.place)
+}
+
+// That of a Directory's bytes, if they are refused.
+pub fn refusal(bytes: &[u8]) -> Option<(u8, usize)> {
+    read_directory(bytes).err().map(numbered)
 }
 
 // Each row, with some bytes before it, is refused with a number at a place.
@@ -39,13 +41,8 @@ pub fn check_refused<'a>(
     rows: &[(&'a [u8], u8, usize)],
 ) -> Result<(), Fail> {
     for (i, (row, number, place)) in rows.iter().enumerate() {
-        let bytes = spelled(heap, [before, *row, b""])?;
-        assert_eq!(rt;
-            refusal(read_directory(bytes.as_slice())),
-            (*number, *place),
-            "{}",
-            i
-        );
+        let bytes = spelled(heap, &[before, *row])?;
+        assert_eq!(rt; refusal(bytes.as_slice()), Some((*number, *place)), "{}", i);
     }
     Ok(())
 }
@@ -57,7 +54,7 @@ pub fn check_accepted(
     rows: &[(&[u8], usize, usize, usize)],
 ) -> Result<(), Fail> {
     for (i, (row, len, directories, links)) in rows.iter().enumerate() {
-        let bytes = spelled(heap, [*row, b"", b""])?;
+        let bytes = spelled(heap, &[*row])?;
         let sections = read_directory(bytes.as_slice())?;
         assert_eq!(rt; bytes.len(), *len, "{}", i);
         assert_eq!(rt; sections.directories, *directories, "{}", i);

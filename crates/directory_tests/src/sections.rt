@@ -103,15 +103,15 @@ fn as_many_bytes_as_may_be(rt: HostRuntime) -> Result<(), Fail> {
     assert_eq!(rt; bytes.len(), 16_777_216);
     assert!(rt; read_directory(bytes.as_slice()).is_ok());
     bytes.push(0)?;
-    assert_eq!(rt; refusal(read_directory(bytes.as_slice())), (5, 0));
+    assert_eq!(rt; refusal(bytes.as_slice()), Some((5, 0)));
     Ok(())
 }
 
 #[test]
 fn too_many_bytes(rt: HostRuntime) -> Result<(), Fail> {
     let mut zeros = vec![in rt.alloc(); 0u8; 16_777_216]?;
-    assert_eq!(rt; refusal(read_directory(zeros.as_slice())), (13, 0));
+    assert_eq!(rt; refusal(zeros.as_slice()), Some((13, 0)));
     zeros.push(0)?;
-    assert_eq!(rt; refusal(read_directory(zeros.as_slice())), (5, 0));
+    assert_eq!(rt; refusal(zeros.as_slice()), Some((5, 0)));
     Ok(())
 }

@@ -1,29 +1,27 @@
-use Rattle.std.proofs.Common.{arith, length-take}
-use Rattle.wire.proofs.Finding.{found}
-use Rattle.directory.proofs.Places.{no_node_past, no_node, nameless, node_found}
+use Rattle.std.proofs.Common.{ℕ, get_or, ap, ◌∙◌, subst, arith, length-take}
+use Rattle.std.specs.Option.{option_map}
+use Rattle.wire.proofs.Finding.{Found, found}
+use Rattle.directory.specs.Regions.{front_in}
+use Rattle.directory.proofs.Places.{read_none, read_some, nameless, node_found}
 use Rattle.directory.proofs.region.node_front.Goals as goal
+use Rattle.directory.proofs.region.node_front.Goals.{In_ok-node}
 
-pub returns-then-at-message : goal.returns-then-at-message
-returns-then-at-message c = record { value = no_node_past c.args.at c.args.message.now c.if-at-message.true; within = tt }
+-- the node's field
+node : (c : In_ok-node) → Found (get_or c.args.message.now c.args.at 0) c.args.at c.args.message.now c.in_ok-node.node
+node c =
+    let m = c.args.message.now in
+    subst (λ (t : ℕ). Found t c.args.at m c.in_ok-node.node) (c.in_ok-tag.ensures.lookup.3.1 0)
+    (found _ c.args.at m c.in_ok-node.node (read_some _ _ _ _ c.in_ok-node.ensures.value c.read_field.ensures.value c.read_field.ensures.within).0)
 
-pub returns-in_default : goal.returns-in_default
-returns-in_default c = record { value = no_node c.args.at c.args.message.now _ c.in_default.ensures.value; within = tt }
+pub returns-in_err-name-clause-value : goal.returns-in_err-name-clause-value
+returns-in_err-name-clause-value c =
+    let e = read_none _ _ c.in_err-name.ensures.value c.read_field-2.ensures.value in
+    ap (option_map (front_in c.args.message.now)) c.from_residual-in_err-name.ensures
+    ∙ nameless c.args.at c.args.message.now c.in_ok-node.node (node (goal.at.returns-in_err-name-clause-value c).In_ok-node) e.0 e.1
 
-pub returns-in_default-read_field : goal.returns-in_default-read_field
-returns-in_default-read_field c = record {
-  value =
-      nameless c.args.at c.args.message.now c.in-Ok.field-0 (found _ _ _ _ c.in-Ok.ensures.value) _
-      c.in_default-read_field.ensures.value;
-  within = tt;
-}
-
-pub returns : goal.returns
-returns c =
-    let node = c.in-Ok.ensures.within in
-    let name = c.in-Ok-read_field.ensures.within in
-    let size = length-take c.in-Ok.field-0.end c.args.message.now in
-    record {
-      value = node_found c.args.at c.args.message.now c.in-Ok.field-0 (found _ _ _ _ c.in-Ok.ensures.value) c.in-Ok-read_field.name
-          (found _ _ _ _ c.in-Ok-read_field.ensures.value) (omega arith);
-      within = (omega arith, omega arith, omega arith, omega arith);
-    }
+pub returns-clause-value : goal.returns-clause-value
+returns-clause-value c =
+    let n = read_some _ _ c.in_ok-name.name _ c.in_ok-name.ensures.value c.read_field-2.ensures.value c.read_field-2.ensures.within in
+    let inside = n.1 in
+    let size = length-take c.in_ok-node.node.end c.args.message.now in
+    node_found c.args.at c.args.message.now c.in_ok-node.node (node (goal.at.returns-clause-value c).In_ok-node) c.in_ok-name.name (found _ _ _ _ n.0) (omega arith)

@@ -11,19 +11,23 @@ use Rattle.directory.proofs.section.read_section.Given as goal
 abbrev pub Left : List ℕ → Span → Span → Span → Type 0
 Left m last all left = Passed (part m last) (names_in m all) (names_in m left)
 
-abbrev pub invariant-loop-at : goal.invariant-loop-at
-invariant-loop-at g l =
+abbrev pub invariant-loop-progress : goal.invariant-loop-progress
+invariant-loop-progress g l =
     let k = g.K.NodeKind in
     let m = l.bytes in
+    let at = l.progress.0 in
+    let last = l.progress.1.0 in
+    let left = l.progress.1.1.0 in
+    let all = l.initial.progress.1.1.0 in
     (f : ℕ) × (rest : List ℕ)
-    × (length (drop l.at m) ≤ f)
-    × (l.last.start ≤ l.last.end)
-    × (l.last.end ≤ l.at)
-    × (l.last.start + length (part m l.last) ≡ l.last.end)
-    × Left m l.last l.initial.left.files l.left.files
-    × Left m l.last l.initial.left.directories l.left.directories
-    × (ends (section_at k.code k.reads (earlier_names m l.initial.left) l.start (drop l.start m))
-    ≡ ends (section k.code k.reads (λ t. among t (earlier_names m l.initial.left)) f (record { text = part m l.last; place = l.last.start; rest = rest }) l.at (drop l.at m)))
+    × (last.start ≤ last.end)
+    × (last.end ≤ at)
+    × (length (drop at m) ≤ f)
+    × (last.start + length (part m last) ≡ last.end)
+    × Left m last all.files left.files
+    × Left m last all.directories left.directories
+    × (ends (section_at k.code k.reads (earlier_names m l.fn.before) l.start (drop l.start m))
+    ≡ ends (section k.code k.reads (λ t. among t (earlier_names m l.fn.before)) f (record { text = part m last; place = last.start; rest = rest }) at (drop at m)))
 
-abbrev pub decreases-loop-at : goal.decreases-loop-at
-decreases-loop-at g l = length l.bytes - l.at
+abbrev pub decreases-loop-progress : goal.decreases-loop-progress
+decreases-loop-progress g l = length l.bytes - l.progress.0
