@@ -1,4 +1,3 @@
-ghost use Rattle.std.specs.Prelude.{◌≡◌};
 ghost use Rattle.digest.specs.Digests.{Value};
 ghost use Rattle.nodes.specs.Kinds.{directory_reads, directory_writes, directory_value, SoundDigest};
 ghost use Rattle.nodes.specs.Laws.{directory_accepts, directory_returns};

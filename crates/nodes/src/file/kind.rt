@@ -1,6 +1,4 @@
-ghost use Rattle.std.specs.Prelude.{◌≡◌, [], ◌∷◌, ◌++◌, if◌then◌else◌};
-ghost use Rattle.wire.specs.Fields.{field_bytes};
-ghost use Rattle.wire.specs.Writing.{told, ending, after};
+ghost use Rattle.std.specs.Prelude.{◌≡◌, [], ◌∷◌, if◌then◌else◌};
 ghost use Rattle.nodes.specs.Kinds.{file_reads, file_writes, file_value, SoundFile, FileValue};
 ghost use Rattle.nodes.specs.Laws.{file_accepts, file_returns};
 
