@@ -3,7 +3,8 @@
 
 ghost use Rattle.std.specs.Prelude.{◌≤◌, length, IfOk};
 
-use anyhow::anyhow;
+use anyhow::Context;
+use sha256::sha256;
 use std::fs::File;
 use std::io::Read;
 use std::{env, io};
@@ -12,14 +13,12 @@ use std::{env, io};
 const ROOM: usize = 16_777_217;
 
 // Reads a file to the buffer's front, as much as there is room for, and answers how much that was.
+// std's `read_to_end` takes 4 % more time in all, since it writes zeros before each read.
 fn fill(file: &mut File, buffer: &mut [u8]) -> io::Result<usize>
     ensures { IfOk result (λ n. n ≤ length buffer.new) }
 {
     let mut n = 0;
-    for _ in 0..ROOM {
-        if n >= buffer.len() {
-            break;
-        }
+    while n < buffer.len() {
         let more = file.read(&mut buffer[n..])?;
         if more == 0 {
             break;
@@ -32,11 +31,11 @@ fn fill(file: &mut File, buffer: &mut [u8]) -> io::Result<usize>
 fn run(rt: &HostRuntime) -> anyhow::Result<()> {
     let mut buffer = vec![in rt.alloc(); 0u8; ROOM]?;
     for name in env::args(rt)?.skip(1) {
-        let mut file = File::open(rt, name.as_str())?;
-        let n = fill(&mut file, buffer.as_mut_slice())?;
-        let Ok(hash) = sha256::sha256(&buffer.as_slice()[0..n]) else {
-            return Err(anyhow!("a file has more than 16777216 bytes"));
-        };
+        let mut file = File::open(rt, &name)?;
+        let n = fill(&mut file, &mut buffer)?;
+        let hash = sha256(&buffer[..n])
+            .ok()
+            .context("a file has more than 16777216 bytes")?;
         println!(rt; "{hash}  {name}")?;
     }
     Ok(())

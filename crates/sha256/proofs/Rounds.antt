@@ -1,9 +1,11 @@
 -- One turn of the rounds of a block. Assumes nothing.
-use Rattle.std.proofs.Common.{◌≡◌, ℕ, zero, suc, ◌+◌, ◌-◌, ◌<◌, ◌≤◌, cond, List, [], ◌∷◌, ◌++◌, length, get_or, take, set, sym, refl, ap, ◌∙◌, add-one, arith, length-set, get_or-take}
-use Rattle.std.proofs.lemmas.List.{take_more_set, length_push, get_or_push, get_or_append_left}
+use Rattle.std.proofs.Common.{◌≡◌, ℕ, zero, suc, ◌+◌, ◌-◌, ◌*◌, ◌<◌, ◌≤◌, cond, List, [], ◌∷◌, ◌++◌, map, length, get_or, take, set, sym, refl, ap, ◌∙◌, add-one, arith, get_or-take}
+use Rattle.std.proofs.lemmas.List.{take_more_set, length_push, get_or_push, get_or_append_left, get_or-map}
+use Rattle.std.specs.Simd.{first_chunks}
 use Rattle.std.proofs.lemmas.Bool.{lt-ltb, le-ltb}
 use Rattle.hash.specs.Bytes.{word}
 use Rattle.sha256.specs.declared.state.State.{State}
+use Rattle.sha256.proofs.Absorbing.{in_chunk}
 use Rattle.sha256.specs.Sha256.{K, next, entry, schedule, round, rounds}
 
 schedule_more : (m : List ℕ) (t : ℕ) → schedule m (t + 1) ≡ schedule m t ++ entry m t (schedule m t) ∷ []
@@ -55,38 +57,34 @@ words_more m w t x h so_far e =
     take_more_set w t x h ∙ ap (λ l. l ++ x ∷ []) so_far ∙ ap (λ y. schedule m t ++ y ∷ []) e ∙ sym (schedule_more m t)
 
 -- one round more behind those so far
-pub state_more : (s₀ : State) (m : List ℕ) (s : State) (t k x : ℕ) (r : State) → s ≡ rounds s₀ (schedule m t) t → k ≡ get_or K t 0 → r ≡ round s k x → x ≡ entry m t (schedule m t)
+pub state_more : (s₀ : State) (m : List ℕ) (s : State) (t x : ℕ) (r : State) → s ≡ rounds s₀ (schedule m t) t → r ≡ round s (get_or K t 0) x → x ≡ entry m t (schedule m t)
     → r ≡ rounds s₀ (schedule m (t + 1)) (t + 1)
-state_more s₀ m s t k x r so_far is_k is_r e =
-    is_r ∙ ap (λ v. round v k x) so_far ∙ ap (λ v. round (rounds s₀ (schedule m t) t) v x) is_k
+state_more s₀ m s t x r so_far is_r e =
+    is_r ∙ ap (λ v. round v (get_or K t 0) x) so_far
     ∙ ap (round (rounds s₀ (schedule m t) t) (get_or K t 0)) e
     ∙ sym (rounds_more s₀ (schedule m t) (entry m t (schedule m t)) t (length-schedule m t))
     ∙ ap (λ l. rounds s₀ l (t + 1)) (sym (schedule_more m t))
 
--- t rounds of the block m are done: w holds the words so far, and s is what they made of s₀
-pub record Sofar (s₀ : State) (m w : List ℕ) (s : State) (t : ℕ) : Type 0 where
-  pub long : length w ≡ 64
-  pub words : take t w ≡ schedule m t
-  pub state : s ≡ rounds s₀ (schedule m t) t
+-- the next word, in the first sixteen turns and behind them
+pub words_first : (m w : List ℕ) (t x : ℕ) → t < length w → t < 16 → take t w ≡ schedule m t → x ≡ word m t → take (t + 1) (set w t x) ≡ schedule m (t + 1)
+words_first m w t x h first so_far e = words_more m w t x h so_far (e ∙ sym (entry_first m t (schedule m t) first))
 
-pub sofar_none : (s₀ : State) (m w : List ℕ) → length w ≡ 64 → Sofar s₀ m w s₀ 0
-unfolding schedule rounds
-sofar_none s₀ m w h = record { long = h; words = refl; state = refl }
+pub words_next : (m w : List ℕ) (t x : ℕ) → t < length w → 16 ≤ t → take t w ≡ schedule m t → x ≡ next w t → take (t + 1) (set w t x) ≡ schedule m (t + 1)
+words_next m w t x h next so_far e = words_more m w t x h so_far (e ∙ next_of_front m w t next so_far)
 
-module _ (s₀ : State) (m w : List ℕ) (s : State) (t : ℕ) (so_far : Sofar s₀ m w s t) (below : t < 64) (k x : ℕ) (r : State) (is_k : k ≡ get_or K t 0) (is_r : r ≡ round s k x) where
-  more : x ≡ entry m t (schedule m t) → Sofar s₀ m (set w t x) r (t + 1)
-  more e = record {
-    long = length-set w t x ∙ so_far.long;
-    words = words_more m w t x (omega (arith, so_far.long)) so_far.words e;
-    state = state_more s₀ m s t k x r so_far.state is_k is_r e;
-  }
-
-  pub more_first : t < 16 → x ≡ word m t → Sofar s₀ m (set w t x) r (t + 1)
-  more_first h e = more (e ∙ sym (entry_first m t (schedule m t) h))
-
-  pub more_next : 16 ≤ t → x ≡ next w t → Sofar s₀ m (set w t x) r (t + 1)
-  more_next h e = more (e ∙ next_of_front m w t h so_far.words)
-
-pub rounds-next : (s : State) (w : List ℕ) (t : ℕ) → rounds s w (t + 1) ≡ round (rounds s w t) (get_or K t 0) (get_or w t 0)
+-- one round more, of words that are all known
+pub round_more : (s₀ : State) (w : List ℕ) (s r : State) (x t : ℕ) → s ≡ rounds s₀ w t → r ≡ round s (get_or K t 0) x → x ≡ get_or w t 0 → r ≡ rounds s₀ w (t + 1)
 unfolding rounds
-rounds-next s w t = ap (rounds s w) (add-one t)
+round_more s₀ w s r x t so_far is_r e =
+    is_r ∙ ap (λ v. round v (get_or K t 0) x) so_far ∙ ap (round (rounds s₀ w t) (get_or K t 0)) e ∙ ap (rounds s₀ w) (sym (add-one t))
+
+-- the same, where each word is read from its row: the round j of the eight that go with the i-th eight rows
+pub eight_more : {T : Type 0} (s₀ : State) (rows : List T) (h : T → ℕ) (i j n : ℕ) (s r : State) (k x : ℕ) (row : T) → length rows ≡ 64 → i < 8 → j < 8
+    → k ≡ get_or (get_or (first_chunks 8 8 K) i []) j 0 → row ≡ get_or (get_or (first_chunks 8 8 rows) i []) j row → x ≡ h row → s ≡ rounds s₀ (map h rows) (8 * i + j) → r ≡ round s k x → n ≡ j + 1
+    → r ≡ rounds s₀ (map h rows) (8 * i + n)
+eight_more s₀ rows h i j n s r k x row long i8 j8 is_k is_row is_x so_far is_r is_n =
+    let t = 8 * i + j in
+    let next : 8 * i + j + 1 ≡ 8 * i + n = omega arith in
+    let known : k ≡ get_or K t 0 = is_k ∙ in_chunk 8 8 K i j 0 i8 j8 in
+    let at : x ≡ get_or (map h rows) t 0 = is_x ∙ ap h (is_row ∙ in_chunk 8 8 rows i j row i8 j8) ∙ sym (get_or-map h rows t row 0 (omega arith)) in
+    round_more s₀ (map h rows) s r x t so_far (is_r ∙ ap (λ v. round s v x) known) at ∙ ap (rounds s₀ (map h rows)) next

@@ -2,4 +2,3 @@ pub mod Faults
 pub mod Lanes
 pub mod Laws
 pub mod Sha256
-pub mod Writing

@@ -1,7 +1,7 @@
-ghost use Rattle.std.specs.Prelude.{◌≡◌, ◌<◌, slice_index};
-ghost use Rattle.sha256.specs.Sha256.{K, marked};
+ghost use Rattle.std.specs.Prelude.{◌≡◌, ◌<◌};
+ghost use Rattle.sha256.specs.Sha256.{marked};
 
-static ROUND_CONSTANTS: [u32; 64] = [
+pub static ROUND_CONSTANTS: [u32; 64] = [
     0x428a2f98, 0x71374491, 0xb5c0fbcf, 0xe9b5dba5, 0x3956c25b, 0x59f111f1, 0x923f82a4, 0xab1c5ed5,
     0xd807aa98, 0x12835b01, 0x243185be, 0x550c7dc3, 0x72be5d74, 0x80deb1fe, 0x9bdc06a7, 0xc19bf174,
     0xe49b69c1, 0xefbe4786, 0x0fc19dc6, 0x240ca1cc, 0x2de92c6f, 0x4a7484aa, 0x5cb0a9dc, 0x76f988da,
@@ -19,17 +19,10 @@ static PADDING: [u8; 64] = [
     0,
 ];
 
-pub fn round_constant(t: usize) -> u32
-    requires { t < 64 }
-    ensures { result ≡ slice_index K t }
-{
-    ROUND_CONSTANTS[t]
-}
-
 // The byte 80 and `zeros` zeros.
 pub fn padding_mark(zeros: usize) -> &'static [u8]
     requires { zeros < 64 }
     ensures { result.now ≡ marked zeros }
 {
-    &PADDING[0..zeros + 1]
+    &PADDING[..zeros + 1]
 }

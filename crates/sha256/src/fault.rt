@@ -5,7 +5,7 @@ ghost use Rattle.sha256.specs.Faults.{number as number_of};
 #[derive(Clone, Copy, Debug, PartialEq, Eq)]
 pub enum Sha256Fault {
     // It has more than 16,777,216 bytes.
-    TooLong,
+    TooLong = 5,
 }
 
 impl Sha256Fault {
@@ -13,8 +13,6 @@ impl Sha256Fault {
     pub fn number(self) -> u8
         ensures { result ≡ number_of self }
     {
-        match self {
-            Sha256Fault::TooLong => 5,
-        }
+        self as u8
     }
 }

@@ -1,4 +1,4 @@
-// The six functions on words.
+// The six functions on words. The standard and the contracts name each, so none is made generic.
 ghost use Rattle.std.specs.Prelude.{◌≡◌};
 ghost use Rattle.sha256.specs.Sha256.{ch, maj, Σ₀, Σ₁, σ₀, σ₁};
 

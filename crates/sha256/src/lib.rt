@@ -2,13 +2,13 @@
 #![tactic(auto)]
 
 mod blocks;
-mod compress;
 mod constants;
 mod fault;
 mod functions;
 mod lanes;
 mod message;
 mod padding;
+mod schedule;
 mod state;
 
 pub use fault::Sha256Fault;

@@ -3,7 +3,7 @@ ghost use Rattle.sha256.specs.Faults.{reported, hashed};
 ghost use Rattle.sha256.specs.Laws.{Examples, FewestZeros, WholeBlocks, Hashes, ConstantsAreRoots};
 
 use crate::fault::Sha256Fault;
-use crate::padding::LastBlocks;
+use crate::padding::last_blocks;
 use crate::state::State;
 use hash::Hash;
 
@@ -17,18 +17,18 @@ pub fn sha256(message: &[u8]) -> Result<Hash, Sha256Fault>
     if n > MAX_LEN {
         return Err(Sha256Fault::TooLong);
     }
-    let whole = n / 64 * 64;
-    let last = LastBlocks::of(&message[whole..n], n);
-    let state = State::first()
-        .absorb(&message[0..whole])
-        .absorb(&last.bytes[0..last.len]);
-    Ok(state.to_hash())
+    let (whole, rest) = message.as_chunks::<64>();
+    let end = last_blocks(rest, n);
+    let (last, _) = end.as_slice().as_chunks::<64>();
+    let state = State::first().absorb(whole).absorb(last);
+    Ok(state.into())
 }
 
 // What the definitions themselves give. It does nothing; its contract is what is proved.
 pub fn definitions_stand()
     ensures examples { Examples }
-    ensures padding { (FewestZeros) × (WholeBlocks) }
+    ensures fewest_zeros { FewestZeros }
+    ensures whole_blocks { WholeBlocks }
     ensures hashes { Hashes }
     ensures constants { ConstantsAreRoots }
 {}

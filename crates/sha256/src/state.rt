@@ -4,7 +4,7 @@ ghost use Rattle.sha256.specs.Sha256.{H₀, round as round_of, sum, words as wor
 use crate::functions::*;
 use hash::Hash;
 
-// A hash value, or the working variables of the rounds.
+// A hash value, or the working variables of the rounds, by the standard's names and so no array.
 #[derive(Clone, Copy)]
 pub struct State {
     pub a: u32,
@@ -72,10 +72,12 @@ impl State {
             h: self.h.wrapping_add(other.h),
         }
     }
+}
 
-    pub fn to_hash(self) -> Hash
-        ensures { result.words ≡ words_of self }
-    {
+impl From<State> for Hash {
+    ghost from_gives = { λ s h. h.words ≡ words_of s };
+
+    fn from(state: State) -> Hash {
         let State {
             a,
             b,
@@ -85,7 +87,7 @@ impl State {
             f,
             g,
             h,
-        } = self;
+        } = state;
         Hash {
             words: [a, b, c, d, e, f, g, h],
         }

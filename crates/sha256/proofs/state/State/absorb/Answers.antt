@@ -1,33 +1,22 @@
-use Rattle.std.proofs.Common.{◌≡◌, ◌+◌, ◌-◌, ◌*◌, ◌/◌, length, take, drop, sym, ap, ◌∙◌, arith}
-use Rattle.sha256.specs.Sha256.{compressed, absorbed}
-use Rattle.sha256.proofs.Absorbing.{absorbed-none, absorbed_more, absorbed-part}
+use Rattle.std.proofs.Common.{◌≡◌, ◌*◌, ◌/◌, ◌++◌, length, take, drop, fold, sym, ap, ◌∙◌, arith}
+use Rattle.std.proofs.lemmas.List.{take_all, take-append-drop}
+use Rattle.std.proofs.lemmas.List.Sums.{fold-append}
+use Rattle.sha256.specs.Sha256.{compressed}
+use Rattle.sha256.proofs.Absorbing.{fold-chunks}
 use Rattle.sha256.proofs.state.State.absorb.Goals as goal
-
-pub loop-i-init : goal.loop-i-init
-loop-i-init c = sym (absorbed-none c.args.self c.args.text.now)
-
-pub loop-i-preserved : goal.loop-i-preserved
-loop-i-preserved c =
-    let i = c.loop-i.i in
-    let text = c.args.text.now in
-    let size : 256 * i + 256 - 256 * i ≡ 256 = omega arith in
-    absorbed-part c.args.self text c.loop-i.s _ (4 * i) 4 (4 * (i + 1)) (256 * i) (omega arith) (omega arith) c.loop-i.invariant
-    (c.absorb_four-s.ensures ∙ ap (λ n. absorbed c.loop-i.s (take n (drop (256 * i) text)) 4) size) (omega arith)
-
-pub loop-i-2-init : goal.loop-i-2-init
-loop-i-2-init c = λ s₀ e. e
-
-pub loop-i-2-preserved : goal.loop-i-2-preserved
-loop-i-2-preserved c = λ s₀ e.
-    let i = c.loop-i-2.i in
-    let text = c.args.text.now in
-    let size : 64 * i + 64 - 64 * i ≡ 64 = omega arith in
-    c.compress-s.ensures ∙ ap (λ n. compressed c.loop-i-2.s (take n (drop (64 * i) text))) size
-    ∙ ap (λ v. compressed v (take 64 (drop (64 * i) text))) (c.loop-i-2.invariant s₀ e) ∙ sym (absorbed_more s₀ text i)
 
 pub returns : goal.returns
 returns c =
-    let text = c.args.text.now in
-    let fours : 4 * c.loop-i.i ≡ 4 * (length text / 256) = omega arith in
-    let end : c.loop-i-2.i ≡ length text / 64 = omega arith in
-    c.loop-i-2.invariant c.args.self (c.loop-i.invariant ∙ ap (absorbed c.args.self text) fours) ∙ ap (absorbed c.args.self text) end
+    let s = c.args.self in
+    let blocks = c.args.blocks.now in
+    let k = length blocks / 4 in
+    let fours = c.as_chunks.result.0.now in
+    let others = c.as_chunks.result.1.now in
+    let at : k * 4 ≡ 4 * k = omega arith in
+    c.loop-block.invariant
+    ∙ ap (fold compressed c.loop-four.s) (take_all c.loop-block.block-index others (omega arith) ∙ c.as_chunks.ensures.back)
+    ∙ ap (λ v. fold compressed v (drop (k * 4) blocks))
+    (c.loop-four.invariant ∙ ap (fold (fold compressed) s) (take_all c.loop-four.four-index fours (omega arith) ∙ c.as_chunks.ensures.front) ∙ fold-chunks 4 compressed s k blocks)
+    ∙ sym (fold-append compressed s (take (4 * k) blocks) (drop (k * 4) blocks))
+    ∙ ap (λ e. fold compressed s (take (4 * k) blocks ++ drop e blocks)) at
+    ∙ ap (fold compressed s) (take-append-drop (4 * k) blocks)
