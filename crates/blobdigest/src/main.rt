@@ -12,18 +12,18 @@ const MOST: u64 = 16_777_217;
 fn run(rt: &HostRuntime) -> anyhow::Result<()> {
     let mut blob = Vec::new(rt.alloc());
     rt.stdin().take(MOST).read_to_end(&mut blob)?;
-    let Ok(digest) = Digest::of(blob.as_slice()) else {
-        return Err(anyhow!("refused 5: the input has more than 16777216 bytes"));
-    };
+    let digest = Digest::of(blob.as_slice()).map_err(|_| anyhow!(
+        "refused 5: the input has more than 16777216 bytes"
+    ))?;
     println!(rt; "{digest}")?;
     Ok(())
 }
 
 fn main(rt: HostRuntime) -> ExitCode {
-    let Err(reason) = run(&rt) else {
-        return ExitCode::SUCCESS;
-    };
-    // Where standard error takes nothing, the status alone tells.
-    let _ = eprintln!(rt; "blobdigest: {reason}");
-    ExitCode::FAILURE
+    if let Err(reason) = run(&rt) {
+        // Where standard error takes nothing, the status alone tells.
+        let _ = eprintln!(rt; "blobdigest: {reason}");
+        return ExitCode::FAILURE;
+    }
+    ExitCode::SUCCESS
 }

@@ -13,13 +13,8 @@ impl Digest {
         ensures { reported result ≡ named text.now size }
     {
         let hash = Hash::from_text(text)?;
-        if size < 0 {
-            return Err(DigestFault::Size);
-        }
-        Ok(Digest {
-            hash,
-            size: size as u64,
-        })
+        let size = u64::try_from(size).map_err(|_| DigestFault::Size)?;
+        Ok(Digest { hash, size })
     }
 
     // The digest of a byte string.

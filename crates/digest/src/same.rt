@@ -6,7 +6,7 @@ ghost use Rattle.std.proofs.Common.{rules};
 
 use crate::digest::Digest;
 
-// Digests are equal when their hashes and their sizes are.
+// Digests are equal when their hashes and their sizes are. By hand: a derive's `==` has no clause `decides`.
 impl PartialEq for Digest {
     ghost eq = { λ a b. nat_eq a.size b.size && pointwise nat_eq a.hash.words b.hash.words };
 

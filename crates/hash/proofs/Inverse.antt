@@ -22,7 +22,7 @@ digit_is_hex n h = grind (arith, nat_tests)
 value_of_digit : (n : ℕ) → n < 16 → hex_value (hex_digit n) ≡ n
 value_of_digit n h = grind (arith, nat_tests)
 
-value_below : (c : ℕ) → is_hex c ≡ true → hex_value c < 16
+pub value_below : (c : ℕ) → is_hex c ≡ true → hex_value c < 16
 value_below c h = grind (arith, nat_tests)
 
 digit_of_value : (c : ℕ) → is_hex c ≡ true → hex_digit (hex_value c) ≡ c
@@ -134,9 +134,9 @@ eight_at ws h =
     let x = at 0 (omega arith) in
     cc
 
-words_of_bytes : (ws : List ℕ) → IsHash ws → words_of (bytes_of ws) ≡ ws
-words_of_bytes ws h =
-    let at : (i : ℕ) → i < 8 → word (bytes_of ws) i ≡ get_or ws i 0 = λ i l. word_of_bytes ws i h.1 (omega (arith, h.0)) in
+-- eight words, each of which is that of the bytes
+pub words_by : (bs ws : List ℕ) → length ws ≡ 8 → ((i : ℕ) → i < 8 → get_or ws i 0 ≡ word bs i) → ws ≡ words_of bs
+words_by bs ws long at =
     let a = at 0 (omega arith) in
     let b = at 1 (omega arith) in
     let c = at 2 (omega arith) in
@@ -145,7 +145,10 @@ words_of_bytes ws h =
     let f = at 5 (omega arith) in
     let g = at 6 (omega arith) in
     let k = at 7 (omega arith) in
-    simp (a, b, c, d, e, f, g, k) (eight_at ws h.0)
+    sym (eight_at ws long) ∙ simp (a, b, c, d, e, f, g, k)
+
+words_of_bytes : (ws : List ℕ) → IsHash ws → words_of (bytes_of ws) ≡ ws
+words_of_bytes ws h = sym (words_by (bytes_of ws) ws h.0 (λ i l. sym (word_of_bytes ws i h.1 (omega (arith, h.0)))))
 
 -- a byte of a list of bytes
 byte_at : (bs : List ℕ) → Bytes bs → (i : ℕ) → get_or bs i 0 < 256

@@ -1,2 +1,3 @@
+pub mod Arrays
 pub mod Inverse
-pub mod Loops
+pub mod Parts

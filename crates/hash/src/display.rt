@@ -10,9 +10,7 @@ impl fmt::Display for Hash {
 
     fn fmt<W: fmt::Write>(&self, f: &mut fmt::Formatter<W>) -> fmt::Result {
         let text = self.to_text();
-        match str::from_utf8(&text) {
-            Ok(s) => f.write_str(s),
-            Err(_) => Err(fmt::Error),
-        }
+        let text = str::from_utf8(&text).map_err(|_| fmt::Error)?;
+        f.write_str(text)
     }
 }

@@ -5,7 +5,7 @@ ghost use Rattle.hash.specs.Faults.{number as number_of};
 #[derive(Clone, Copy, Debug, PartialEq, Eq)]
 pub enum HashTextFault {
     // It is not 64 of the characters 0-9 and a-f.
-    NotHashText,
+    NotHashText = 2,
 }
 
 impl HashTextFault {
@@ -13,8 +13,6 @@ impl HashTextFault {
     pub fn number(self) -> u8
         ensures { result ≡ number_of self }
     {
-        match self {
-            HashTextFault::NotHashText => 2,
-        }
+        self as u8
     }
 }

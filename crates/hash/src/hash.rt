@@ -1,9 +1,11 @@
-ghost use Rattle.std.specs.Prelude.{◌≡◌, ◌<◌, length, nat_eq};
+ghost use Rattle.std.specs.Prelude.{nat_eq, ◌≡◌};
 ghost use Rattle.std.specs.Bool.{Decides};
 ghost use Rattle.std.specs.Cmp.Lexicographic.{pointwise};
-ghost use Rattle.hash.specs.Bytes.{word, words_of, bytes_of};
+ghost use Rattle.hash.specs.Bytes.{bytes_of, words_of};
 ghost use Rattle.std.specs.Cmp.Rules.{comparing};
 ghost use Rattle.std.proofs.Common.{rules};
+
+use std::array;
 
 // The 32 bytes of a hash as eight words, the most significant byte of each first.
 #[derive(Clone, Copy, Debug)]
@@ -11,48 +13,29 @@ pub struct Hash {
     pub words: [u32; 8],
 }
 
+// `from_bytes` and `from_text` are no `TryFrom`: both read bytes, and it would not say as what.
 impl Hash {
+    // The hash of 32 bytes.
     pub fn from_bytes(bytes: &[u8; 32]) -> Hash
         ensures { result.words ≡ words_of bytes.now }
     {
+        let (words, _) = bytes.as_chunks::<4>();
         Hash {
-            words: [
-                word_at(bytes, 0),
-                word_at(bytes, 1),
-                word_at(bytes, 2),
-                word_at(bytes, 3),
-                word_at(bytes, 4),
-                word_at(bytes, 5),
-                word_at(bytes, 6),
-                word_at(bytes, 7),
-            ],
+            words: array::from_fn(|i| u32::from_be_bytes(words[i])),
         }
     }
 
+    // The 32 bytes of this hash.
     pub fn to_bytes(&self) -> [u8; 32]
         ensures { result ≡ bytes_of self.now.words }
     {
-        let mut bytes = [0u8; 32];
-        for i in 0..8 {
-            bytes[4 * i..4 * i + 4].copy_from_slice(&self.words[i].to_be_bytes());
-        }
+        let mut bytes = [0; 32];
+        bytes.copy_from_slice(self.words.map(u32::to_be_bytes).as_flattened());
         bytes
     }
 }
 
-// The i-th word of a byte string, most significant byte first.
-fn word_at(bytes: &[u8; 32], i: usize) -> u32
-    requires { i < 8 }
-    ensures { result ≡ word bytes.now i }
-{
-    u32::from_be_bytes([
-        bytes[4 * i],
-        bytes[4 * i + 1],
-        bytes[4 * i + 2],
-        bytes[4 * i + 3],
-    ])
-}
-
+// By hand: a derive's `==` has no clause `decides`.
 impl PartialEq for Hash {
     ghost eq = { λ a b. pointwise nat_eq a.words b.words };
 

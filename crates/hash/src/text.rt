@@ -1,9 +1,10 @@
-ghost use Rattle.std.specs.Prelude.{◌≡◌, ◌+◌, ◌*◌, ◌<◌, ◌&&◌, if◌then◌else◌, Some, None};
+ghost use Rattle.std.specs.Prelude.{slice_index, ◌%◌, ◌*◌, ◌+◌, ◌<◌, ◌≡◌};
 ghost use Rattle.hash.specs.Faults.{reported};
-ghost use Rattle.hash.specs.Text.{hex_digit, hex_pair, is_hex, hex_value, text_of, hash_of, TextIsReadBack, TextIsTheOnlyOne};
+ghost use Rattle.hash.specs.Text.{TextIsReadBack, TextIsTheOnlyOne, every_hex, hash_of, hex_digit, hex_pair, hex_value, is_hex, text_of};
 
 use crate::fault::HashTextFault;
 use crate::hash::Hash;
+use std::array;
 
 impl Hash {
     // The hash that a text spells.
@@ -11,17 +12,11 @@ impl Hash {
         ensures answer { reported result ≡ hash_of text.now }
         ensures texts { TextIsTheOnlyOne }
     {
-        if text.len() != 64 {
+        if text.len() != 64 || !every_hex(text) {
             return Err(HashTextFault::NotHashText);
         }
-        let mut bytes = [0u8; 32];
-        for i in 0..32 {
-            let Some(byte) = hex_byte(text[2 * i], text[2 * i + 1]) else {
-                return Err(HashTextFault::NotHashText);
-            };
-            bytes[i] = byte;
-        }
-        Ok(Hash::from_bytes(&bytes))
+        let (pairs, _) = text.as_chunks::<2>();
+        Ok(Hash::from_bytes(&array::from_fn(|i| hex_byte(pairs[i]))))
     }
 
     // The text of this hash.
@@ -30,9 +25,10 @@ impl Hash {
         ensures texts { TextIsReadBack }
     {
         let bytes = self.to_bytes();
-        let mut text = [0u8; 64];
-        for i in 0..32 {
-            text[2 * i..2 * i + 2].copy_from_slice(&hex_pair(bytes[i]));
+        let mut text = [0; 64];
+        // `map(hex_pair)` and `as_flattened` take four times as long.
+        for (i, byte) in bytes.iter().enumerate() {
+            text[2 * i..2 * i + 2].copy_from_slice(&hex_pair(*byte));
         }
         text
     }
@@ -53,22 +49,37 @@ fn hex_pair(b: u8) -> [u8; 2]
     [hex_digit(b / 16), hex_digit(b % 16)]
 }
 
-// The number of a character, if it is one of 0-9 and a-f.
-fn hex_value(c: u8) -> Option<u8>
-    ensures { result ≡ (if is_hex c then Some (hex_value c) else None) }
+// Whether a character is one of 0-9 and a-f.
+fn is_hex(c: u8) -> bool
+    ensures { result ≡ is_hex c }
 {
-    match c {
-        b'0'..=b'9' => Some(c - b'0'),
-        b'a'..=b'f' => Some(c - b'a' + 10),
-        _ => None,
+    matches!(c, b'0'..=b'9' | b'a'..=b'f')
+}
+
+// Whether each character is. `all` would end early, which keeps the compiler from taking many at once.
+fn every_hex(text: &[u8]) -> bool
+    ensures { result ≡ every_hex text.now }
+{
+    text.iter().fold(true, |every, c| every & is_hex(*c))
+}
+
+// The number of such a character.
+fn hex_value(c: u8) -> u8
+    ensures { result ≡ hex_value c }
+{
+    if c <= b'9' {
+        c.saturating_sub(b'0')
+    } else {
+        c.saturating_sub(b'a') + 10
     }
 }
 
-// The byte that two characters spell.
-fn hex_byte(high: u8, low: u8) -> Option<u8>
-    ensures { result ≡ (if is_hex high && is_hex low then Some (hex_value high * 16 + hex_value low) else None) }
+// The byte that two such characters spell.
+fn hex_byte(pair: [u8; 2]) -> u8
+    ensures { result ≡ (hex_value (slice_index pair 0) * 16 + hex_value (slice_index pair 1)) % 256 }
 {
-    let h = hex_value(high)?;
-    let l = hex_value(low)?;
-    Some(h * 16 + l)
+    let [high, low] = pair;
+    hex_value(high)
+        .wrapping_mul(16)
+        .wrapping_add(hex_value(low))
 }

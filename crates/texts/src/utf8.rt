@@ -1,27 +1,27 @@
-ghost use Rattle.std.specs.Prelude.{◌≡◌};
+ghost use Rattle.std.specs.Prelude.{slice_index_or, ◌≡◌};
 ghost use Rattle.texts.specs.Utf8.{TextsAreUtf8, char_width, is_text, range};
 
-// Whether a byte may stand behind the second byte of a character.
-fn is_tail(b: u8) -> bool
-    ensures { result ≡ range 0x80 0xBF b }
+// Whether the byte at an index is one that may stand behind the second byte of a character.
+fn is_tail(text: &[u8], i: usize) -> bool
+    ensures { result ≡ range 0x80 0xBF (slice_index_or text.now i 0xFF) }
 {
-    matches!(b, 0x80..=0xBF)
+    matches!(text.get(i), Some(0x80..=0xBF))
 }
 
 // How many bytes the character at the front takes, if there is one.
 fn char_width(text: &[u8]) -> Option<usize>
     ensures { result ≡ char_width text.now }
 {
-    match text {
-        [0x00..=0x7F, ..] => Some(1),
-        [0xC2..=0xDF, 0x80..=0xBF, ..] => Some(2),
-        [0xE0, 0xA0..=0xBF, c, ..] if is_tail(*c) => Some(3),
-        [0xE1..=0xEC, 0x80..=0xBF, c, ..] if is_tail(*c) => Some(3),
-        [0xED, 0x80..=0x9F, c, ..] if is_tail(*c) => Some(3),
-        [0xEE..=0xEF, 0x80..=0xBF, c, ..] if is_tail(*c) => Some(3),
-        [0xF0, 0x90..=0xBF, c, d, ..] if is_tail(*c) && is_tail(*d) => Some(4),
-        [0xF1..=0xF3, 0x80..=0xBF, c, d, ..] if is_tail(*c) && is_tail(*d) => Some(4),
-        [0xF4, 0x80..=0x8F, c, d, ..] if is_tail(*c) && is_tail(*d) => Some(4),
+    match (text.first()?, text.get(1)) {
+        (0x00..=0x7F, _) => Some(1),
+        (0xC2..=0xDF, Some(0x80..=0xBF)) => Some(2),
+        (0xE0, Some(0xA0..=0xBF)) if is_tail(text, 2) => Some(3),
+        (0xE1..=0xEC, Some(0x80..=0xBF)) if is_tail(text, 2) => Some(3),
+        (0xED, Some(0x80..=0x9F)) if is_tail(text, 2) => Some(3),
+        (0xEE..=0xEF, Some(0x80..=0xBF)) if is_tail(text, 2) => Some(3),
+        (0xF0, Some(0x90..=0xBF)) if is_tail(text, 2) && is_tail(text, 3) => Some(4),
+        (0xF1..=0xF3, Some(0x80..=0xBF)) if is_tail(text, 2) && is_tail(text, 3) => Some(4),
+        (0xF4, Some(0x80..=0x8F)) if is_tail(text, 2) && is_tail(text, 3) => Some(4),
         _ => None,
     }
 }

@@ -2,6 +2,15 @@
 #![tactic(auto)]
 
 #[cfg(test)]
+use wire::ReadFault;
+
+// A refusal's number and place.
+#[cfg(test)]
+fn told(fault: ReadFault) -> (u8, usize) {
+    (fault.case.number(), fault.place)
+}
+
+#[cfg(test)]
 mod of_texts {
     use texts::{is_name, is_target, is_text, precedes};
 
@@ -65,58 +74,48 @@ mod of_texts {
 
 #[cfg(test)]
 mod of_wire {
+    use super::told;
     use wire::{read_field, read_number, write_field, write_number};
 
     #[test]
     fn numbers_read(rt: HostRuntime) {
-        let rows: [(&[u8], usize, u64, usize, usize); 11] = [
-            (b"\x00", 0, 0, 1, 0),
-            (b"\x7F", 0, 127, 1, 0),
-            (b"\x80\x01", 0, 128, 2, 0),
-            (b"\xAC\x02", 0, 300, 2, 0),
-            (b"\x0A\xAC\x02\x61", 1, 300, 2, 0),
+        let rows: [(&[u8], usize, Result<(u64, usize), (u8, usize)>); 11] = [
+            (b"\x00", 0, Ok((0, 1))),
+            (b"\x7F", 0, Ok((127, 1))),
+            (b"\x80\x01", 0, Ok((128, 2))),
+            (b"\xAC\x02", 0, Ok((300, 2))),
+            (b"\x0A\xAC\x02\x61", 1, Ok((300, 2))),
             (
                 b"\xFF\xFF\xFF\xFF\xFF\xFF\xFF\xFF\x7F",
                 0,
-                9_223_372_036_854_775_807,
-                9,
-                0,
+                Ok((9_223_372_036_854_775_807, 9)),
             ),
-            (b"\xFF\xFF\xFF\xFF\xFF\xFF\xFF\xFF\xFF\x01", 0, 0, 0, 12),
-            (b"\x80\x00", 0, 0, 0, 12),
-            (b"\x80", 0, 0, 0, 12),
-            (b"", 0, 0, 0, 12),
-            (b"\x05", 7, 0, 0, 12),
+            (b"\xFF\xFF\xFF\xFF\xFF\xFF\xFF\xFF\xFF\x01", 0, Err((12, 0))),
+            (b"\x80\x00", 0, Err((12, 0))),
+            (b"\x80", 0, Err((12, 0))),
+            (b"", 0, Err((12, 0))),
+            (b"\x05", 7, Err((12, 7))),
         ];
-        for (bytes, start, value, taken, refused) in rows {
-            match read_number(bytes, start) {
-                Ok((n, k)) => assert!(rt; refused == 0 && n == value && k == taken),
-                Err(fault) => assert!(rt;
-                    usize::from(fault.case.number()) == refused && fault.place == start
-                ),
-            }
+        for (bytes, start, expected) in rows {
+            assert!(rt; read_number(bytes, start).map_err(told) == expected);
         }
     }
 
     #[test]
     fn fields_read(rt: HostRuntime) {
-        let rows: [(&[u8], usize, usize, usize, usize); 8] = [
-            (b"\x0A\x02ab", 0, 2, 4, 0),
-            (b"\x0A\x00", 0, 2, 2, 0),
-            (b"xx\x0A\x01a", 2, 4, 5, 0),
-            (b"\x0A\x03ab", 0, 1, 0, 12),
-            (b"\x0A\x80\x00", 0, 1, 0, 12),
-            (b"\x0A", 0, 1, 0, 12),
-            (b"\x12\x00", 0, 0, 0, 13),
-            (b"", 0, 0, 0, 13),
+        let rows: [(&[u8], usize, Result<(usize, usize), (u8, usize)>); 8] = [
+            (b"\x0A\x02ab", 0, Ok((2, 4))),
+            (b"\x0A\x00", 0, Ok((2, 2))),
+            (b"xx\x0A\x01a", 2, Ok((4, 5))),
+            (b"\x0A\x03ab", 0, Err((12, 1))),
+            (b"\x0A\x80\x00", 0, Err((12, 1))),
+            (b"\x0A", 0, Err((12, 1))),
+            (b"\x12\x00", 0, Err((13, 0))),
+            (b"", 0, Err((13, 0))),
         ];
-        for (bytes, start, first, end, refused) in rows {
-            match read_field(bytes, start, 0x0A) {
-                Ok(span) => assert!(rt; refused == 0 && span.start == first && span.end == end),
-                Err(fault) => assert!(rt;
-                    usize::from(fault.case.number()) == refused && fault.place == first
-                ),
-            }
+        for (bytes, start, expected) in rows {
+            let read = read_field(bytes, start, 0x0A).map(|span| (span.start, span.end));
+            assert!(rt; read.map_err(told) == expected);
         }
     }
 
@@ -135,6 +134,7 @@ mod of_wire {
 
 #[cfg(test)]
 mod of_nodes {
+    use super::told;
     use digest::Digest;
     use nodes::{DirectoryNode, FileNode, LinkNode, NodeKind, read_name, write_node};
     use std::alloc::Global;
@@ -157,62 +157,58 @@ mod of_nodes {
 
     #[test]
     fn names_read(rt: HostRuntime) {
-        let rows: [(&[u8], usize, u8); 7] = [
-            (b"\x0A\x01b\x12\x01a", 2, 0),
-            (b"\x0A\x02..", 2, 16),
-            (b"\x0A\x00", 2, 16),
-            (b"\x0A\x01\xFF", 2, 15),
-            (b"\x0A\x03a", 1, 12),
-            (b"\x12\x01a", 0, 13),
-            (b"", 0, 13),
+        let rows: [(&[u8], Result<usize, (u8, usize)>); 7] = [
+            (b"\x0A\x01b\x12\x01a", Ok(2)),
+            (b"\x0A\x02..", Err((16, 2))),
+            (b"\x0A\x00", Err((16, 2))),
+            (b"\x0A\x01\xFF", Err((15, 2))),
+            (b"\x0A\x03a", Err((12, 1))),
+            (b"\x12\x01a", Err((13, 0))),
+            (b"", Err((13, 0))),
         ];
-        for (message, place, refused) in rows {
-            match read_name(message, 0) {
-                Ok(span) => assert!(rt; refused == 0 && span.start == place),
-                Err(fault) => assert!(rt; fault.case.number() == refused && fault.place == place),
-            }
+        for (message, expected) in rows {
+            let read = read_name(message, 0).map(|span| span.start);
+            assert!(rt; read.map_err(told) == expected);
         }
     }
 
     #[test]
     fn links_read(rt: HostRuntime) {
-        let rows: [(&[u8], usize, u8); 6] = [
-            (b"\x0A\x01b\x12\x01a", 5, 0),
-            (b"\x0A\x01b", 3, 13),
-            (b"\x0A\x01b\x12\x00", 5, 19),
-            (b"\x0A\x01b\x12\x02a\x00", 5, 19),
-            (b"\x0A\x01b\x12\x01\x80", 5, 15),
-            (b"\x0A\x01b\x12\x01a\x1A", 6, 13),
+        let rows: [(&[u8], Result<usize, (u8, usize)>); 6] = [
+            (b"\x0A\x01b\x12\x01a", Ok(5)),
+            (b"\x0A\x01b", Err((13, 3))),
+            (b"\x0A\x01b\x12\x00", Err((19, 5))),
+            (b"\x0A\x01b\x12\x02a\x00", Err((19, 5))),
+            (b"\x0A\x01b\x12\x01\x80", Err((15, 5))),
+            (b"\x0A\x01b\x12\x01a\x1A", Err((13, 6))),
         ];
-        for (message, place, refused) in rows {
-            match <LinkNode as nodes::NodeKind>::read_rest(message, 3) {
-                Ok(link) => assert!(rt; refused == 0 && link.target.start == place),
-                Err(fault) => assert!(rt; fault.case.number() == refused && fault.place == place),
-            }
+        for (message, expected) in rows {
+            let read = <LinkNode as nodes::NodeKind>::read_rest(message, 3).map(|link| link
+                .target
+                .start);
+            assert!(rt; read.map_err(told) == expected);
         }
     }
 
     #[test]
     fn files_read(rt: HostRuntime) -> Result<(), Fail> {
-        let rows: [([u8; 2], &[u8], usize, u8); 8] = [
-            ([0x47, 0x42], b"", 0, 0),
-            ([0x49, 0x42], b"\x20\x01", 1, 0),
-            ([0x49, 0x42], b"\x20\x00", 74, 13),
-            ([0x49, 0x42], b"\x20\x02", 74, 13),
-            ([0x49, 0x42], b"\x10\x01", 73, 13),
-            ([0x49, 0x44], b"\x10\x00", 74, 13),
-            ([0x4A, 0x42], b"\x20\x01\x00", 75, 13),
-            ([0x48, 0x42], b"\x20", 74, 12),
+        let rows: [([u8; 2], &[u8], Result<bool, (u8, usize)>); 8] = [
+            ([0x47, 0x42], b"", Ok(false)),
+            ([0x49, 0x42], b"\x20\x01", Ok(true)),
+            ([0x49, 0x42], b"\x20\x00", Err((13, 74))),
+            ([0x49, 0x42], b"\x20\x02", Err((13, 74))),
+            ([0x49, 0x42], b"\x10\x01", Err((13, 73))),
+            ([0x49, 0x44], b"\x10\x00", Err((13, 74))),
+            ([0x4A, 0x42], b"\x20\x01\x00", Err((13, 75))),
+            ([0x48, 0x42], b"\x20", Err((12, 74))),
         ];
-        for (lengths, behind, place, refused) in rows {
+        for (lengths, behind, expected) in rows {
             let node = file_a(rt.alloc(), lengths, behind)?;
             match <FileNode as nodes::NodeKind>::read_rest(node.as_slice(), 5) {
                 Ok(file) => assert!(rt;
-                    refused == 0
-                        && file.executable == (place == 1)
-                        && file.digest == Digest::of(b"")?
+                    expected == Ok(file.executable) && file.digest == Digest::of(b"")?
                 ),
-                Err(fault) => assert!(rt; fault.case.number() == refused && fault.place == place),
+                Err(fault) => assert!(rt; expected == Err(told(fault))),
             }
         }
         let mut node = file_a(rt.alloc(), [0x47, 0x42], b"")?;
@@ -221,7 +217,7 @@ mod of_nodes {
         let fault = <FileNode as nodes::NodeKind>::read_rest(node.as_slice(), 5)
             .err()
             .ok_or("a capital letter was read")?;
-        assert!(rt; fault.case.number() == 14 && fault.place == 9);
+        assert!(rt; told(fault) == (14, 9));
         Ok(())
     }
 

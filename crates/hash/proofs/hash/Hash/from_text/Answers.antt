@@ -1,42 +1,26 @@
-use Rattle.std.proofs.Common.{◌≡◌, ◌+◌, ◌*◌, ◌<◌, ◌++◌, length, take, drop, Ok, sym, ap, ◌∙◌, arith, length-set}
-use Rattle.std.proofs.lemmas.List.{append-nil, take_all, drop_all}
+use Rattle.std.proofs.Common.{◌≡◌, ℕ, ◌*◌, ◌/◌, ◌<◌, true, [], length, get_or, Ok, sym, ap, ◌∙◌, arith, rules, tests}
+use Rattle.std.specs.Simd.{first_chunks}
 use Rattle.hash.specs.Bytes.{words_of}
-use Rattle.hash.specs.Text.{every_hex, spelled}
+use Rattle.hash.specs.Text.{every_hex}
+use Rattle.hash.proofs.Arrays.{pair_value, made, pair_at, spelled_by, accepted}
 use Rattle.hash.proofs.Inverse.{text_is_the_only_one}
-use Rattle.hash.proofs.Loops.{read, not_read, every_more, every_stops, spelled_more, refused-length, refused_character, accepted}
 use Rattle.hash.proofs.hash.Hash.from_text.Goals as goal
 
-pub returns-then-text-ne64 : goal.returns-then-text-ne64
-returns-then-text-ne64 c = record { answer = refused-length c.args.text.now c.if-text-ne64.true; texts = text_is_the_only_one }
+pub returns-then-text-ne64-clause-texts : goal.returns-then-text-ne64-clause-texts
+returns-then-text-ne64-clause-texts c = text_is_the_only_one
 
-pub returns-in_default : goal.returns-in_default
-returns-in_default c =
+pub returns-clause-answer : goal.returns-clause-answer
+returns-clause-answer c =
     let text = c.args.text.now in
-    let i = c.loop-i.i in
-    let within : 2 * i + 1 < length text = omega arith in
-    record { answer = refused_character text (sym c.loop-i.invariant.2 ∙ every_stops text i within (not_read _ _ c.in_default.ensures)); texts = text_is_the_only_one }
+    let every : every_hex text ≡ true = sym c.every_hex.ensures ∙ c.if-not-every_hex.false in
+    let long : length text ≡ 2 * 32 = c.if-text-ne64.false in
+    let half : length text / 2 ≡ 32 = omega arith in
+    let pairs = c.as_chunks.result.0.now in
+    let are : pairs ≡ first_chunks 2 32 text = c.as_chunks.ensures.front ∙ ap (λ n. first_chunks 2 n text) half in
+    let each : (i : ℕ) → i < 32 → get_or c.from_fn.result i 0 ≡ pair_value (get_or pairs i []) =
+    made _ _ (λ i. pair_value (get_or pairs i [])) 32 (λ i y q l k. search (rules, tests)) c.from_fn.result 0 c.from_fn.ensures.items in
+    let bytes = spelled_by 32 text c.from_fn.result long c.from_fn.ensures.items.long (λ i l. each i l ∙ ap (λ p. pair_value (get_or p i [])) are ∙ pair_at text 32 i every long l) in
+    ap Ok (c.from_bytes.ensures ∙ ap words_of bytes) ∙ accepted text c.if-text-ne64.false every
 
-pub loop-i-preserved : goal.loop-i-preserved
-loop-i-preserved c =
-    let text = c.args.text.now in
-    let i = c.loop-i.i in
-    let bytes = c.loop-i.bytes in
-    let within : 2 * i + 1 < length text = omega arith in
-    let here : i < length bytes = omega (arith, c.loop-i.invariant.0) in
-    let got = read _ _ c.in-Some.byte c.in-Some.ensures in (
-      length-set bytes i c.in-Some.byte ∙ c.loop-i.invariant.0,
-      spelled_more text bytes i c.in-Some.byte within here got.1 c.loop-i.invariant.1,
-      sym (every_more text i within got.0) ∙ c.loop-i.invariant.2,
-    )
-
-pub returns : goal.returns
-returns c =
-    let text = c.args.text.now in
-    let i = c.loop-i.i in
-    let bytes = c.loop-i.bytes in
-    let end : drop (2 * i) text ≡ _ = drop_all (2 * i) text (omega arith) in
-    let all : bytes ≡ spelled text = sym (take_all i bytes (omega (arith, c.loop-i.invariant.0))) ∙ sym (append-nil _) ∙ sym (ap (λ l. take i bytes ++ spelled l) end) ∙ c.loop-i.invariant.1 in
-    record {
-      answer = ap Ok (c.from_bytes.ensures ∙ ap words_of all) ∙ accepted text c.if-text-ne64.false (sym c.loop-i.invariant.2 ∙ ap every_hex end);
-      texts = text_is_the_only_one;
-    }
+pub returns-clause-texts : goal.returns-clause-texts
+returns-clause-texts c = text_is_the_only_one
