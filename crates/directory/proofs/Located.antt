@@ -12,7 +12,7 @@ use Rattle.directory.specs.declared.find.FoundNode.{FoundNode}
 use Rattle.directory.specs.declared.find.Kind.{Kind}
 use Rattle.directory.specs.Items.{Item, Found as FoundItem, found_as, found_at, found_in, found_of}
 use Rattle.directory.specs.Sections.{Node}
-use Rattle.directory.proofs.Places.{behind-cut, cut-part}
+use Rattle.directory.proofs.Places.{cut-part, in_field}
 
 pub unspanned : (r : Refusal) (x : Result Piece Refusal) → Err r ≡ spanned x → x ≡ Err r
 unspanned r (Ok y) e = absurd (not_ok e)
@@ -27,9 +27,7 @@ module _ {V : Type 0} (t : ℕ) (finds : ℕ → List ℕ → Result V Refusal) 
   behind e y = next (finds (y.place + length y.text) y.rest) (λ v. Ok (record { item = item (record { name = y.text; rest = v }); name = span_of y; end = e }))
 
   at_field : found_as t finds item p (drop p m) ≡ next (field_at 0x0A s.start (drop s.start cut)) (behind s.end)
-  at_field =
-      ap (λ r. next r (λ x. next (field_at 0x0A x.place x.text) (behind (x.place + length x.text)))) f.is
-      ∙ (λ i. next (field_at 0x0A (sym f.start i) (sym (behind-cut m s.end s.start ∙ f.text) i)) (behind (sym f.end i)))
+  at_field = in_field t p m s f (λ e q bs. next (field_at 0x0A q bs) (behind e))
 
   pub name_refused : (r : Refusal) → Err r ≡ spanned (field_at 0x0A s.start (drop s.start cut)) → Err r ≡ found_as t finds item p (drop p m)
   name_refused r e = sym (at_field ∙ ap (λ x. next x (behind s.end)) (unspanned r _ e))

@@ -10,7 +10,7 @@ use Rattle.wire.specs.Numbers.{form}
 use Rattle.wire.specs.declared.fault.ReadFault.{ReadFault}
 use Rattle.wire.specs.Refusals.{Refusal, refusal_of, reported, next}
 use Rattle.wire.proofs.Fieldings.{fielded, field_back}
-use Rattle.wire.proofs.Finding.{Found, not_ok}
+use Rattle.wire.proofs.Finding.{Found, found, not_ok}
 use Rattle.nodes.specs.Kinds.{part}
 use Rattle.directory.specs.Regions.{Front, front_of}
 
@@ -25,6 +25,10 @@ no_field t p q bs e n = go (field_at t q bs) refl
     go : (r : Result Piece Refusal) → field_at t q bs ≡ r → None ≡ result_ok r
     go (Err d) is = refl
     go (Ok x) is = absurd (not_ok (n ∙ ap spanned (elsewhere t q p bs x is)))
+
+-- a field that was read under a tag
+pub found_under : (t u p : ℕ) (m : List ℕ) (s : Span) → Ok s ≡ spanned (field_at u p (drop p m)) → u ≡ t → Found t p m s
+found_under t u p m s e same = found t p m s (e ∙ ap (λ k. spanned (field_at k p (drop p m))) same)
 
 -- the refusal that a `?` returns
 pub refused_by : {A : Type 0} (r : Result A ReadFault) (f : ReadFault) → IsErrAnd r (λ e. e ≡ f) → r ≡ Err f
@@ -60,6 +64,12 @@ behind-cut m e p =
 -- a part of it is one of the whole
 pub cut-part : (m : List ℕ) (e : ℕ) (s : Span) → s.end ≤ e → part (take e m) s ≡ part m s
 cut-part m e s h = ap (take (s.end - s.start)) (behind-cut m e s.start) ∙ take-take (s.end - s.start) (e - s.start) (drop s.start m) (omega arith)
+
+-- what goes on inside a field that was found, with where it ends and where its text is
+pub in_field : {A : Type 0} (t p : ℕ) (m : List ℕ) (s : Span) → Found t p m s → (go : ℕ → ℕ → List ℕ → Result A Refusal)
+    → next (field_at t p (drop p m)) (λ x. go (x.place + length x.text) x.place x.text) ≡ go s.end s.start (drop s.start (take s.end m))
+in_field t p m s f go =
+    ap (λ r. next r (λ x. go (x.place + length x.text) x.place x.text)) f.is ∙ (λ i. go (sym f.end i) (sym f.start i) (sym (behind-cut m s.end s.start ∙ f.text) i))
 
 module _ (p : ℕ) (m : List ℕ) where
   tagged : front_of (drop p m) ≡ next (field_at (get_or m p 0) 0 (drop p m)) named

@@ -13,9 +13,9 @@ use Rattle.wire.proofs.Finding.{not_ok, same_ok, Found, found}
 use Rattle.nodes.specs.Kinds.{part}
 use Rattle.nodes.specs.Names.{name_at, judged_name}
 use Rattle.directory.specs.Sections.{Named, placed, node_at}
-use Rattle.directory.specs.Steps.{Extent, extent, extent_in}
+use Rattle.directory.specs.Steps.{Extent, extent}
 use Rattle.directory.proofs.Located.{unspanned}
-use Rattle.directory.proofs.Places.{behind-cut, cut-part}
+use Rattle.directory.proofs.Places.{cut-part, in_field}
 
 -- how long a part is
 pub part_length : (m : List ℕ) (s : Span) → s.start ≤ s.end → s.end ≤ length m → s.start + length (part m s) ≡ s.end
@@ -46,57 +46,58 @@ name_found p m n e = go (name_at p (drop p m)) refl e
         let same : l.piece ≡ y = same_ok (sym l.is ∙ field) in
         record { is = is ∙ sym (ap Ok same) ∙ (λ i. Ok (record { text = sym l.text i; place = sym l.start i; rest = sym l.rest i })) }
 
-module _ {V : Type 0} (t : ℕ) (reads : ℕ → List ℕ → Result V Refusal) (taken : List ℕ → Bool) (prev : List ℕ) (m : List ℕ) (at : ℕ) (s : Span) (f : Found t at m s) where
-  abbrev cut : List ℕ
-  cut = take s.end m
-
+-- what is answered of a name behind the name prev, in a node that ends at e
+module _ {V : Type 0} (reads : ℕ → List ℕ → Result V Refusal) (taken : List ℕ → Bool) (prev : List ℕ) (e : ℕ) where
   abbrev ending : Named V → Result Extent Refusal
-  ending n = Ok (record { name = span_of n.name; end = s.end })
+  ending n = Ok (record { name = span_of n.name; end = e })
 
   abbrev judging : Piece → Result (Named V) Refusal
   judging x = next (placed prev taken x) (λ y. next (reads (y.place + length y.text) y.rest) (λ v. Ok (record { name = y; value = v })))
 
-  at_field : extent t reads taken prev at (drop at m) ≡ next (next (name_at s.start (drop s.start cut)) judging) ending
-  at_field =
-      ap (λ r. next r (λ x. next (node_at t reads taken prev x.place x.text) (extent_in t reads taken x))) f.is
-      ∙ (λ i. next (node_at t reads taken prev (sym f.start i) (sym (behind-cut m s.end s.start ∙ f.text) i)) (λ n. Ok (record { name = span_of n.name; end = sym f.end i })))
+  unfoldable pub behind_name : Piece → Result Extent Refusal
+  behind_name x = next (judging x) ending
+
+  module _ (x : Piece) where
+    as_placed : (r : Result Piece Refusal) → placed prev taken x ≡ r → behind_name x ≡ next (next r (λ y. next (reads (y.place + length y.text) y.rest) (λ v. Ok (record { name = y; value = v })))) ending
+    unfolding behind_name
+    as_placed r = ap (λ r. next (next r (λ y. next (reads (y.place + length y.text) y.rest) (λ v. Ok (record { name = y; value = v })))) ending)
+
+    pub order_refused : false ≡ before prev x.text → refused 17 x.place ≡ behind_name x
+    order_refused b = sym (as_placed _ (cond-false (before prev x.text) _ _ (sym b)))
+
+    module _ (above : true ≡ before prev x.text) where
+      pub repeat_refused : true ≡ taken x.text → refused 18 x.place ≡ behind_name x
+      repeat_refused b = sym (as_placed _ (cond-true (before prev x.text) _ _ (sym above) ∙ cond-true (taken x.text) _ _ (sym b)))
+
+      module _ (free : false ≡ taken x.text) (q : ℕ) (long : x.place + length x.text ≡ q) where
+        at_rest : behind_name x ≡ next (next (reads q x.rest) (λ v. Ok (record { name = x; value = v }))) ending
+        at_rest =
+            as_placed _ (cond-true (before prev x.text) _ _ (sym above) ∙ cond-false (taken x.text) _ _ (sym free))
+            ∙ ap (λ p. next (next (reads p x.rest) (λ v. Ok (record { name = x; value = v }))) ending) long
+
+        pub rest_refused : (r : Refusal) → Err r ≡ reads q x.rest → Err r ≡ behind_name x
+        rest_refused r h = sym (at_rest ∙ ap (λ y. next (next y (λ v. Ok (record { name = x; value = v }))) ending) (sym h))
+
+        pub rest_read : (v : V) → Ok v ≡ reads q x.rest → Ok (record { name = record { start = x.place; end = q }; end = e }) ≡ behind_name x
+        rest_read v h =
+            sym (at_rest ∙ ap (λ y. next (next y (λ v. Ok (record { name = x; value = v }))) ending) (sym h)
+            ∙ ap (λ p. Ok (record { name = record { start = x.place; end = p }; end = e })) long)
+
+-- the node whose field is at s
+module _ {V : Type 0} (t : ℕ) (reads : ℕ → List ℕ → Result V Refusal) (taken : List ℕ → Bool) (prev : List ℕ) (m : List ℕ) (at : ℕ) (s : Span) (f : Found t at m s) where
+  abbrev cut : List ℕ
+  cut = take s.end m
+
+  at_field : extent t reads taken prev at (drop at m) ≡ next (next (name_at s.start (drop s.start cut)) (judging reads taken prev s.end)) (ending reads taken prev s.end)
+  at_field = in_field t at m s f (λ e q bs. next (node_at t reads taken prev q bs) (ending reads taken prev e))
 
   pub name_refused : (r : Refusal) → Err r ≡ spanned (name_at s.start (drop s.start cut)) → Err r ≡ extent t reads taken prev at (drop at m)
-  name_refused r e = sym (at_field ∙ ap (λ x. next (next x judging) ending) (unspanned r (name_at s.start (drop s.start cut)) e))
+  name_refused r e = sym (at_field ∙ ap (λ x. next (next x (judging reads taken prev s.end)) (ending reads taken prev s.end)) (unspanned r (name_at s.start (drop s.start cut)) e))
 
-  module _ (n : Span) (g : Ok n ≡ spanned (name_at s.start (drop s.start cut))) (a : n.start ≤ n.end) (b : n.end ≤ s.end) (l : n.end ≤ length m) where
-    abbrev pub named : Piece
-    named = record { text = part m n; place = n.start; rest = drop n.end cut }
-
-    at_name : extent t reads taken prev at (drop at m) ≡ next (judging named) ending
-    at_name =
-        at_field
-        ∙ ap (λ x. next (next x judging) ending) (name_found s.start cut n g).is
-        ∙ ap (λ x. next (judging (record { text = x; place = n.start; rest = drop n.end cut })) ending) (cut-part m s.end n b)
-
-    place_refused : (r : Refusal) → Err r ≡ placed prev taken named → Err r ≡ extent t reads taken prev at (drop at m)
-    place_refused r e = sym (at_name ∙ ap (λ x. next (next x (λ y. next (reads (y.place + length y.text) y.rest) (λ v. Ok (record { name = y; value = v })))) ending) (sym e))
-
-    pub order_refused : false ≡ before prev (part m n) → refused 17 n.start ≡ extent t reads taken prev at (drop at m)
-    order_refused b = place_refused _ (sym (cond-false (before prev (part m n)) _ _ (sym b)))
-
-    module _ (above : true ≡ before prev (part m n)) where
-      pub repeat_refused : true ≡ taken (part m n) → refused 18 n.start ≡ extent t reads taken prev at (drop at m)
-      repeat_refused b = place_refused _ (sym (cond-true (before prev (part m n)) _ _ (sym above) ∙ cond-true (taken (part m n)) _ _ (sym b)))
-
-      module _ (free : false ≡ taken (part m n)) where
-        at_rest : extent t reads taken prev at (drop at m) ≡ next (next (reads n.end (drop n.end cut)) (λ v. Ok (record { name = named; value = v }))) ending
-        at_rest =
-            at_name
-            ∙ ap (λ x. next (next x (λ y. next (reads (y.place + length y.text) y.rest) (λ v. Ok (record { name = y; value = v })))) ending) (cond-true (before prev (part m n)) _ _ (sym above) ∙ cond-false (taken (part m n)) _ _ (sym free))
-            ∙ ap (λ p. next (next (reads p (drop n.end cut)) (λ v. Ok (record { name = named; value = v }))) ending) (part_length m n a l)
-
-        pub rest_refused : (r : Refusal) → Err r ≡ reads n.end (drop n.end cut) → Err r ≡ extent t reads taken prev at (drop at m)
-        rest_refused r e = sym (at_rest ∙ ap (λ x. next (next x (λ v. Ok (record { name = named; value = v }))) ending) (sym e))
-
-        pub node_read : (v : V) → Ok v ≡ reads n.end (drop n.end cut) → Ok (record { name = n; end = s.end }) ≡ extent t reads taken prev at (drop at m)
-        node_read v e =
-            sym
-            (at_rest
-            ∙ ap (λ x. next (next x (λ v. Ok (record { name = named; value = v }))) ending) (sym e)
-            ∙ ap (λ p. Ok (record { name = record { start = n.start; end = p }; end = s.end })) (part_length m n a l))
+  -- and whose name is at n
+  pub at_name : (n : Span) → Ok n ≡ spanned (name_at s.start (drop s.start cut)) → n.end ≤ s.end
+      → behind_name reads taken prev s.end (record { text = part m n; place = n.start; rest = drop n.end cut }) ≡ extent t reads taken prev at (drop at m)
+  unfolding behind_name
+  at_name n g b =
+      sym (at_field ∙ ap (λ x. next (next x (judging reads taken prev s.end)) (ending reads taken prev s.end)) (name_found s.start cut n g).is
+      ∙ ap (λ x. behind_name reads taken prev s.end (record { text = x; place = n.start; rest = drop n.end cut })) (cut-part m s.end n b))

@@ -1,17 +1,14 @@
-use Rattle.std.proofs.Common.{ℕ, get_or, ap, ◌∙◌, subst, arith, length-take}
+use Rattle.std.proofs.Common.{get_or, ap, ◌∙◌, arith, length-take}
 use Rattle.std.specs.Option.{option_map}
 use Rattle.wire.proofs.Finding.{Found, found}
 use Rattle.directory.specs.Regions.{front_in}
-use Rattle.directory.proofs.Places.{read_none, read_some, nameless, node_found}
+use Rattle.directory.proofs.Places.{found_under, read_none, read_some, nameless, node_found}
 use Rattle.directory.proofs.region.node_front.Goals as goal
 use Rattle.directory.proofs.region.node_front.Goals.{In_ok-node}
 
 -- the node's field
 node : (c : In_ok-node) → Found (get_or c.args.message.now c.args.at 0) c.args.at c.args.message.now c.in_ok-node.node
-node c =
-    let m = c.args.message.now in
-    subst (λ (t : ℕ). Found t c.args.at m c.in_ok-node.node) (c.in_ok-tag.ensures.lookup.3.1 0)
-    (found _ c.args.at m c.in_ok-node.node (read_some _ _ _ _ c.in_ok-node.ensures.value c.read_field.ensures.value c.read_field.ensures.within).0)
+node c = found_under _ _ _ _ _ (read_some _ _ _ _ c.in_ok-node.ensures.value c.read_field.ensures.value c.read_field.ensures.within).0 (c.in_ok-tag.ensures.lookup.3.1 0)
 
 pub returns-in_err-name-clause-value : goal.returns-in_err-name-clause-value
 returns-in_err-name-clause-value c =
