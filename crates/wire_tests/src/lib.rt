@@ -136,7 +136,7 @@ mod of_wire {
 mod of_nodes {
     use super::told;
     use digest::Digest;
-    use nodes::{DirectoryNode, FileNode, LinkNode, NodeKind, read_name, write_node};
+    use nodes::{DirectoryNode, FileNode, LinkNode, NewNode, NodeKind, read_name};
     use std::alloc::Global;
     use std::test::Fail;
 
@@ -237,14 +237,25 @@ mod of_nodes {
         assert!(rt; expected.len() == 75);
         assert!(rt; buffer[5..75] == expected[5..75] && buffer[75] == 0xEE);
         let mut whole = [0xEE; 76];
-        assert!(rt; write_node(b"a", &file, b"", &mut whole, 0).ok() == Some(75));
+        let executable = NewNode {
+            name: b"a",
+            rest: &file,
+            text: b"",
+        };
+        assert!(rt; executable.write(&mut whole, 0).ok() == Some(75));
         assert!(rt; whole[0..75] == expected[0..75] && whole[75] == 0xEE);
         let plain = FileNode {
             digest,
             executable: false,
         };
-        assert!(rt; write_node(b"a", &plain, b"", &mut whole, 3).ok() == Some(76));
-        assert!(rt; write_node(b"a", &plain, b"", &mut whole, 4).is_err());
+        let plain = NewNode {
+            name: b"a",
+            rest: &plain,
+            text: b"",
+        };
+        assert!(rt; plain.fits(&whole, 3) && !plain.fits(&whole, 4));
+        assert!(rt; plain.write(&mut whole, 3).ok() == Some(76));
+        assert!(rt; plain.write(&mut whole, 4).is_err());
         let directory = DirectoryNode { digest };
         assert!(rt;
             <DirectoryNode as nodes::NodeKind>::write_rest(&directory, b"", &mut buffer, 8).ok()
