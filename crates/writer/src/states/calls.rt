@@ -101,9 +101,9 @@ impl Links {
         ensures same { NodesReadGiveTheSameBytes }
     {
         let Mark { used, .. } = self.mark;
-        match self.mark.check(buffer, Part::Links) {
-            Ok(_) => Ok(used),
-            Err(fault) => Err((self, fault)),
-        }
+        self.mark
+            .check(buffer, Part::Links)
+            .map(|_| used)
+            .map_err(|fault| (self, fault))
     }
 }
