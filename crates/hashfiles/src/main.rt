@@ -18,14 +18,12 @@ fn fill(file: &mut File, buffer: &mut [u8]) -> io::Result<usize>
     ensures { IfOk result (λ n. n ≤ length buffer.new) }
 {
     let mut n = 0;
-    while n < buffer.len() {
-        let more = file.read(&mut buffer[n..])?;
-        if more == 0 {
-            break;
+    loop {
+        match file.read(&mut buffer[n..])? {
+            0 => return Ok(n),
+            more => n += more,
         }
-        n += more;
     }
-    Ok(n)
 }
 
 fn run(rt: &HostRuntime) -> anyhow::Result<()> {

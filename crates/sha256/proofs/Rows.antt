@@ -9,7 +9,7 @@ use Rattle.std.proofs.lemmas.List.Sums.{fold_more}
 use Rattle.std.proofs.lemmas.Bool.{cases_eq}
 use Rattle.hash.specs.Bytes.{word}
 use Rattle.sha256.specs.declared.state.State.{State}
-use Rattle.sha256.specs.Lanes.{lane, word_row, next_row}
+use Rattle.sha256.specs.Lanes.{word_row, next_row}
 use Rattle.sha256.specs.Sha256.{K, plus, rotr, shr, σ₀, σ₁, next, entry, schedule, round, rounds, sum, compressed}
 use Rattle.sha256.proofs.Rounds.{entry_first, next_of_front, words_more, state_more}
 
@@ -22,7 +22,9 @@ pub sigma_of_row : (p q n : ℕ) (x y z : List ℕ) → length x ≡ 4 → y ≡
 sigma_of_row p q n x y z h first second =
     zip2_of_maps bit_xor (λ a. bit_xor (rotr p a) (rotr q a)) (shr n) x (zip2_of_maps bit_xor (rotr p) (rotr q) x first second) (zip2_splat (λ a b. a / 2 ^ b) x 4 n h)
 
--- a lane of a row
+-- a table has a row for each word of a schedule, and in each row a lane for each block
+abbrev pub lane : List (List ℕ) → ℕ → List ℕ
+lane w l = map (λ row. get_or row l 0) w
 
 lane_at : (w : List (List ℕ)) (l i : ℕ) → i < length w → get_or (lane w l) i 0 ≡ get_or (get_or w i []) l 0
 lane_at w l i h = get_or-map (λ row. get_or row l 0) w i [] 0 h

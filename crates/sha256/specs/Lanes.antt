@@ -1,5 +1,5 @@
 -- The schedules of four blocks side by side, and the words that rows hold. Only private functions cite this file.
-use Rattle.std.specs.Prelude.{◌≡◌, ℕ, ◌-◌, List, [], map, slice_index, slice_index_or}
+use Rattle.std.specs.Prelude.{◌≡◌, ℕ, ◌-◌, List, [], map, slice_index_or}
 use Rattle.std.specs.Fn.{FnReturnsAt, Shared}
 use Rattle.std.specs.Borrow.{Bor}
 use Rattle.std.specs.Simd.Lanes.{zip2}
@@ -9,10 +9,6 @@ use Rattle.sha256.specs.Sha256.{plus, σ₀, σ₁}
 -- each call of f, at a reference, gives what h gives
 abbrev pub Reads : {F T : Type 0} → Shared F (Bor T × Unit {0}) ℕ → F → (T → ℕ) → Type 0
 Reads {F} {T} g f h = (x : T) (r : ℕ) → FnReturnsAt g f x r → r ≡ h x
-
--- A table has a row for each word of a schedule, and in each row a lane for each block.
-abbrev pub lane : List (List ℕ) → ℕ → List ℕ
-lane w l = map (λ row. slice_index row l) w
 
 -- the words t of four blocks
 abbrev pub word_row : List (List ℕ) → ℕ → List ℕ
