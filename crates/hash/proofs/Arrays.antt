@@ -1,8 +1,8 @@
 -- Arrays made from their elements, and texts read pair by pair. Assumes nothing.
-use Rattle.std.proofs.Common.{◌≡◌, ℕ, zero, suc, ◌+◌, ◌*◌, ◌%◌, ◌<◌, ◌≤◌, Bool, true, false, ◌&&◌, List, [], ◌∷◌, ◌++◌, length, map, get_or, take, drop, Ok, Err, sym, refl, ap, ◌∙◌, subst, ⊎_elim, mod-eq_of_lt, arith}
+use Rattle.std.proofs.Common.{◌≡◌, ℕ, zero, suc, ◌+◌, ◌*◌, ◌%◌, ◌<◌, ◌≤◌, Bool, true, false, ◌&&◌, List, [], ◌∷◌, ◌++◌, length, map, get_or, take, drop, Ok, sym, refl, ap, ◌∙◌, subst, ⊎_elim, mod-eq_of_lt, arith}
 use mathlib.Core.Bool.{and_assoc}
 use denote.Param.Members.{Mut}
-use Rattle.std.proofs.lemmas.Bool.{cases_eq, and_parts, and_from, and_left, and_right, eq-eqb, ne_eqb, cond-true, cond-false}
+use Rattle.std.proofs.lemmas.Bool.{cases_eq, and_parts, and_from, eq-eqb, cond-true}
 use Rattle.std.proofs.lemmas.List.{drop-drop, ext_get_or, get_or-drop, get_or-map, get_or-take, length-map}
 use Rattle.std.specs.Array.{IsMapOf, IsFromFnResult, IsFromFnResultFrom}
 use Rattle.std.specs.Fn.{Called}
@@ -98,12 +98,6 @@ pair_at text n i every long h =
     let high = value_below (get_or text (2 * i) 0) (hex_at text (2 * i) every (omega arith)) in
     let low = value_below (get_or text (2 * i + 1) 0) (hex_at text (2 * i + 1) every (omega arith)) in
     (λ k. (hex_value (a k) * 16 + hex_value (b k)) % 256) ∙ mod-eq_of_lt (omega arith)
-
-pub refused-length : (text : List ℕ) → (length text ≡ 64 → ⊥) → Err 2 ≡ hash_of text
-refused-length text h = sym (cond-false (is_hash_text text) _ _ (and_left _ _ (ne_eqb (length text) 64 h)))
-
-pub refused_character : (text : List ℕ) → every_hex text ≡ false → Err 2 ≡ hash_of text
-refused_character text h = sym (cond-false (is_hash_text text) _ _ (and_right _ _ h))
 
 pub accepted : (text : List ℕ) → length text ≡ 64 → every_hex text ≡ true → Ok (words_of (spelled text)) ≡ hash_of text
 accepted text long every = sym (cond-true (is_hash_text text) _ _ (and_from _ _ (eq-eqb (length text) 64 long) every))
