@@ -19,7 +19,7 @@ pub struct Reached {
     pub latest: SectionEnd,
 }
 
-// The sections up to one of them.
+// The sections up to one of them. Each is of another kind of node, so that closures for the three would be no plainer.
 fn read_up_to(bytes: &[u8], part: Part) -> Result<Reached, ReadFault>
     requires { length bytes.now ≤ 16777216 }
     ensures { reported result ≡ answered reached_of (up_to part bytes.now) }

@@ -110,7 +110,9 @@ fn hash_of(text: &str) -> anyhow::Result<Hash> {
 
 // The first `count` bytes of a message in hexadecimal.
 fn bytes_of(heap: Global, text: &str, count: usize) -> anyhow::Result<Vec<u8>> {
-    let mut bytes = hex::decode(heap, text).context("a message of the file is not hexadecimal")?;
+    let mut bytes = hex::decode(heap, text)
+        .ok()
+        .context("a message of the file is not hexadecimal")?;
     bytes.truncate(count);
     Ok(bytes)
 }

@@ -14,6 +14,7 @@ use nodes::{DirectoryNode, FileNode, NewNode};
 // The longest buffer, in bytes.
 const MAX_BYTES: usize = 16_777_216;
 
+// The buffer is lent at each call, and so is part of no struct.
 impl Files {
     // A writer for a buffer, which is lent at each call.
     pub fn start(buffer: &[u8]) -> Result<Files, WriterFault>
