@@ -55,6 +55,7 @@ impl State {
             }
         }
         s = self.plus(s);
+        // A lane is chosen by its number: copied into an array of its own first, it takes 8 % longer.
         for lane in 1..4 {
             s = s.mix(&w, |row| row.as_array()[lane]);
         }
