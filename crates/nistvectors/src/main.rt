@@ -1,7 +1,7 @@
 // Runs NIST's byte-oriented test vectors of SHA-256: short and long messages, and the Monte Carlo test.
 #![tactic(auto)]
 
-use anyhow::Context;
+use anyhow::{Context, ensure};
 use hash::Hash;
 use sha256::sha256;
 use std::alloc::Global;
@@ -110,9 +110,11 @@ fn hash_of(text: &str) -> anyhow::Result<Hash> {
 
 // The first `count` bytes of a message in hexadecimal.
 fn bytes_of(heap: Global, text: &str, count: usize) -> anyhow::Result<Vec<u8>> {
-    let mut bytes = hex::decode(heap, text)
-        .ok()
-        .context("a message of the file is not hexadecimal")?;
-    bytes.truncate(count);
+    ensure!(
+        text.chars().all(|c| c.is_ascii_hexdigit()),
+        "a message of the file is not hexadecimal"
+    );
+    let (pairs, _) = text.as_bytes().as_chunks::<2>();
+    let bytes = hex::decode(heap, pairs[..count.min(pairs.len())].as_flattened())?;
     Ok(bytes)
 }

@@ -6,7 +6,7 @@ use crate::kind::NodeKind;
 use wire::{WriteFault, end_of, field_length, number_length, write_field, write_number};
 
 // A node that is to be written: its name, and what follows it, whose texts lie in `text`.
-#[derive(Drop)]
+#[derive_where(Clone, Copy)]
 pub struct NewNode<'a, K> {
     pub name: &'a [u8],
     pub rest: &'a K,
