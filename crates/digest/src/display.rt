@@ -9,8 +9,6 @@ impl fmt::Display for Digest {
     ghost output = { λ d. Some (printed (value_of d)) };
 
     fn fmt<W: fmt::Write>(&self, f: &mut fmt::Formatter<W>) -> fmt::Result {
-        let hash = self.hash;
-        let size = self.size;
-        write!(f, "{hash} {size}")
+        write!(f, "{} {}", self.hash, self.size)
     }
 }

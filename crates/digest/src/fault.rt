@@ -17,7 +17,7 @@ pub enum DigestFault {
 }
 
 impl DigestFault {
-    // The refusal's number. A match, since the faults below have their own.
+    // The refusal's number. A match, since the faults below have numbers of their own.
     pub fn number(self) -> u8
         ensures { result ≡ number_of self }
     {

@@ -7,7 +7,7 @@ use crate::fault::DigestFault;
 use hash::Hash;
 use sha256::sha256;
 
-// No `TryFrom`: `from_text` takes two values, and both functions take bytes.
+// No `TryFrom`: one takes a text and the other a blob, both of them bytes, and it would not tell the two apart.
 impl Digest {
     // The digest with the hash that a text spells, and with a size.
     pub fn from_text(text: &[u8], size: i64) -> Result<Digest, DigestFault>

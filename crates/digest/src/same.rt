@@ -19,7 +19,3 @@ impl PartialEq for Digest {
         self.size == other.size && self.hash == other.hash
     }
 }
-
-impl Eq for Digest {
-    ghost laws = { Prim.search (comparing, rules) };
-}

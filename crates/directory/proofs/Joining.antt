@@ -15,10 +15,10 @@ use Rattle.directory.specs.declared.part.Sections.{Sections}
 use Rattle.directory.specs.declared.section.SectionEnd.{SectionEnd}
 use Rattle.directory.specs.declared.reader.Reached.{Reached}
 use Rattle.directory.specs.Canonical.{GoodSection, section_bytes}
-use Rattle.directory.specs.Directories.{Reading, files_in, with_files, directories_in, with_directories, links_in, with_links, up_to, closed, part_of, so_far_of, answered}
+use Rattle.directory.specs.Directories.{Reading, files_at, directories_at, files_in, with_files, directories_in, with_directories, links_in, with_links, up_to, closed, part_of, so_far_of, answered}
 use Rattle.directory.specs.Regions.{names_in, names_up_to, Ascending}
 use Rattle.directory.specs.Sections.{Node, Section, names, nobody, section_at}
-use Rattle.directory.specs.Steps.{files_at, directories_at, earlier_names, Sorted, ends, end_of, reached_of}
+use Rattle.directory.specs.Steps.{earlier_names, Sorted, ends, end_of, reached_of}
 use Rattle.directory.proofs.Fronts.{names_within}
 use Rattle.directory.proofs.OneSection.{accepted}
 

@@ -11,6 +11,13 @@ use Rattle.directory.specs.declared.part.Sections.{Sections}
 use Rattle.directory.specs.declared.part.SoFar.{SoFar}
 use Rattle.directory.specs.Sections.{Node, Section, names, section_at}
 
+-- where the files and the directories are
+abbrev pub files_at : Sections → Span
+files_at s = record { start = 0; end = s.directories }
+
+abbrev pub directories_at : Sections → Span
+directories_at s = record { start = s.directories; end = s.links }
+
 -- the nodes of a Directory
 pub record Nodes : Type 0 where
   pub files : List (Node FileValue)

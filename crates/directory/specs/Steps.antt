@@ -9,7 +9,7 @@ use Rattle.directory.specs.declared.progress.Progress.{Progress}
 use Rattle.directory.specs.declared.region.Earlier.{Earlier}
 use Rattle.directory.specs.declared.part.Sections.{Sections}
 use Rattle.directory.specs.declared.section.SectionEnd.{SectionEnd}
-use Rattle.directory.specs.Directories.{Reading}
+use Rattle.directory.specs.Directories.{files_at, directories_at, Reading}
 use Rattle.directory.specs.Regions.{names_in, Ascending, past, met}
 use Rattle.directory.specs.Sections.{Named, Section, node_at}
 
@@ -48,13 +48,6 @@ ends (Err e) = Err e
 -- where the sections read so far are, and where the latest ends
 abbrev pub reached_of : Reading → Reached
 reached_of r = record { sections = r.sections; latest = record { last = r.last; end = r.place } }
-
--- where the files and the directories are, of the sections before one
-abbrev pub files_at : Sections → Span
-files_at s = record { start = 0; end = s.directories }
-
-abbrev pub directories_at : Sections → Span
-directories_at s = record { start = s.directories; end = s.links }
 
 -- the names in both
 abbrev pub earlier_names : List ℕ → Sections → List (List ℕ)

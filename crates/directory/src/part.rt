@@ -1,3 +1,6 @@
+ghost use Rattle.std.specs.Prelude.{◌≡◌};
+ghost use Rattle.directory.specs.Directories.{files_at, directories_at};
+
 use wire::Span;
 
 // The sections of a Directory, in their order.
@@ -13,6 +16,28 @@ pub enum Part {
 pub struct Sections {
     pub directories: usize,
     pub links: usize,
+}
+
+impl Sections {
+    // Where the files are.
+    pub fn files_span(&self) -> Span
+        ensures { result ≡ files_at self.now }
+    {
+        Span {
+            start: 0,
+            end: self.directories,
+        }
+    }
+
+    // Where the directories are.
+    pub fn directories_span(&self) -> Span
+        ensures { result ≡ directories_at self.now }
+    {
+        Span {
+            start: self.directories,
+            end: self.links,
+        }
+    }
 }
 
 // What was read of a Directory up to some section: where the sections are, and where the last name of the latest is, an empty part at its start if it has none.

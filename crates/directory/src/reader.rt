@@ -12,7 +12,7 @@ use wire::{ReadCase, ReadFault};
 // The largest Directory, in bytes.
 const MAX_BYTES: usize = 16_777_216;
 
-// What was read up to some section: where the sections are, and where the latest ends.
+// What was read up to some section: where the sections are, and of the latest the last name and the end.
 #[derive(Clone, Copy)]
 pub struct Reached {
     pub sections: Sections,

@@ -58,20 +58,15 @@ pub fn read_section<K: NodeKind + Drop>(
     requires { Sorted bytes.now before }
     ensures { reported result ≡ ends (section_at K.NodeKind.code K.NodeKind.reads (earlier_names bytes.now before) start (drop start bytes.now)) }
 {
-    let files = Span {
-        start: 0,
-        end: before.directories,
-    };
-    let directories = Span {
-        start: before.directories,
-        end: before.links,
-    };
+    let files = before.files_span();
+    let directories = before.directories_span();
     let mut progress = Progress {
         at: start,
         last: Span { start, end: start },
         earlier: Earlier { files, directories },
     };
     let tag = K::tag();
+    // No index: each node ends where the next begins.
     while bytes.get(progress.at) == Some(&tag) {
         progress = read_node::<K>(bytes, progress)?;
     }

@@ -8,6 +8,7 @@ const EMPTY: &[u8] = b"e3b0c44298fc1c149afbf4c8996fb92427ae41e4649b934ca495991b7
 
 const CUT: &[u8] = b"e3b0c44298fc1c149afbf4c8996fb92427ae41e4649b934ca495991b7852b85";
 
+// The tests of `writer` spell bytes alike: one function for both would stand in a library, with a contract, and be no plainer.
 // The parts one behind the other, where `#` stands for the 64 characters of the hash text of no bytes, and `%` for its first 63.
 pub fn spelled(heap: Global, parts: &[&[u8]]) -> Result<Vec<u8>, Fail> {
     let mut bytes = Vec::new(heap);

@@ -8,12 +8,12 @@ ghost use Rattle.std.proofs.Common.{rules};
 use std::array;
 
 // The 32 bytes of a hash as eight words, the most significant byte of each first.
-#[derive(Clone, Copy, Debug)]
+#[derive(Clone, Copy, Debug, Eq)]
 pub struct Hash {
     pub words: [u32; 8],
 }
 
-// `from_bytes` and `from_text` are no `TryFrom`: both read bytes, and it would not say as what.
+// `from_bytes` and `from_text` are no `From` and no `TryFrom`: both take bytes, and these would not tell the two apart.
 impl Hash {
     // The hash of 32 bytes.
     pub fn from_bytes(bytes: &[u8; 32]) -> Hash
@@ -47,8 +47,4 @@ impl PartialEq for Hash {
     {
         self.words == other.words
     }
-}
-
-impl Eq for Hash {
-    ghost laws = { Prim.search (comparing, rules) };
 }

@@ -19,7 +19,7 @@ fn digest_length(digest: &Digest) -> usize
     field_length(&digest.hash.to_text()) + last_number_length(digest.size)
 }
 
-// How many bytes a field of it takes, whatever its tag.
+// How many bytes a field with the message of a digest takes, whatever its tag.
 pub fn digest_field_length(digest: &Digest) -> usize
     ensures value { (tag : ℕ) → result ≡ length (field_bytes tag (digest_bytes (value_of digest.now))) }
     ensures short { result ≤ 97 }

@@ -25,10 +25,10 @@ pub fn read_last_number(message: &[u8], start: usize, tag: u8, most: u64) -> Res
     ensures value { reported result ≡ last_number tag most start (drop start message.now) }
     ensures bound { IfOk result (λ n. n ≤ most) }
 {
-    if start >= message.len() {
+    let Some(first) = message.get(start) else {
         return Ok(0);
-    }
-    if message[start] != tag {
+    };
+    if *first != tag {
         return Err(ReadFault {
             case: ReadCase::Tag,
             place: start,

@@ -1,5 +1,5 @@
 // The three kinds of node of a Directory.
-// As in `wire`, a message or a buffer and its `start` are no struct: each call has another start.
+// As in `wire`, a message or a buffer and its `start` are no cursor.
 #![tactic(auto)]
 
 mod digest_field;

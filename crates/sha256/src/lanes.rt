@@ -15,7 +15,7 @@ fn row_rotr(x: u32x4, n: u32) -> u32x4
     (x >> u32x4::splat(n)) | (x << u32x4::splat(32 - n))
 }
 
-// The σ of rows: a trait over these and those of words would be longer.
+// The σ of rows. As const parameters their numbers would stand here all the same, and a trait over rows and words would be longer.
 fn row_sigma0(x: u32x4) -> u32x4
     ensures { result ≡ map σ₀ x }
 {

@@ -5,7 +5,7 @@ ghost use Rattle.sha256.specs.Sha256.{next, schedule};
 
 use crate::functions::{small_sigma0, small_sigma1};
 
-// The 64 words of a block's schedule. Each is made from words before it, by the standard's index t.
+// The 64 words of a block's schedule, by the standard's index t: the first are the block's, and each other is made from words before it.
 pub fn schedule(block: &[u8; 64]) -> [u32; 64]
     ensures { result ≡ schedule block.now 64 }
 {

@@ -13,7 +13,7 @@ pub struct Span {
 }
 
 // The field whose tag stands at a place of a message: where its text is.
-// `message` and `start` are no struct: each call has another start, so it would be made anew for each.
+// `message` and `start` are no cursor: contracts speak of places, and callers hold places that they go back to.
 pub fn read_field(message: &[u8], start: usize, tag: u8) -> Result<Span, ReadFault>
     ensures value { reported result ≡ spanned (field_at tag start (drop start message.now)) }
     ensures within { IfOk result (Inside start message.now) }

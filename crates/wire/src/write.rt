@@ -16,7 +16,7 @@ pub fn end_of(buffer: &[u8], start: usize, len: usize) -> Result<usize, WriteFau
 }
 
 // Writes bytes from a place of the buffer on, and answers the place behind them.
-// `buffer` and `start` are no struct: each call has another start, so it would be made anew for each.
+// `buffer` and `start` are no cursor: the buffer is lent at each call, and callers hold the places.
 pub fn write_bytes(buffer: &mut [u8], start: usize, bytes: &[u8]) -> Result<usize, WriteFault>
     ensures answer { told result ≡ ending buffer.old start bytes.now }
     ensures buffer { buffer.new ≡ after buffer.old start bytes.now }

@@ -142,7 +142,7 @@ mod of_nodes {
 
     const EMPTY: &[u8] = b"e3b0c44298fc1c149afbf4c8996fb92427ae41e4649b934ca495991b7852b855";
 
-    // The node of a file `a` with the digest of no bytes, its length byte and what follows the hash text being given.
+    // The node of a file `a` with the digest of no bytes, its two lengths and what follows the hash text being given.
     fn file_a(heap: Global, lengths: [u8; 2], behind: &[u8]) -> Result<Vec<u8>, Fail> {
         let mut node = Vec::from_slice(
             heap,

@@ -20,7 +20,7 @@ pub const LENGTH: WriterFault = WriterFault::Read(ReadFault {
 });
 
 impl WriterFault {
-    // The refusal's number.
+    // The refusal's number. A match, since the faults below have numbers of their own.
     pub fn number(self) -> u8
         ensures { result ≡ (writer_refusal self).number }
     {
@@ -30,7 +30,7 @@ impl WriterFault {
         }
     }
 
-    // The byte at which it refuses, counted as if the node had been added.
+    // The byte at which it refuses, counted as if the node had been added. Room has no place: the rules say 0.
     pub fn place(self) -> usize
         ensures { result ≡ (writer_refusal self).place }
     {

@@ -7,10 +7,10 @@ ghost use Rattle.directory.specs.Sections.{node_at};
 ghost use Rattle.writer.specs.Growing.{inside};
 ghost use Rattle.writer.specs.Judging.{met_before, name_said};
 
-use directory::{Part, Sections, SoFar, has_name};
+use directory::{Part, SoFar, has_name};
 use nodes::{NewNode, NodeKind, part_of};
 use texts::{is_name, is_text, precedes};
-use wire::{ReadCase, ReadFault, Span, field_length, number_length};
+use wire::{ReadCase, ReadFault, field_length, number_length};
 
 // The bytes so far, which a node is to stand behind, and what was read of them.
 #[derive(Clone, Copy)]
@@ -25,15 +25,9 @@ impl SoFarIn<'_> {
     fn is_taken(&self, name: &[u8]) -> bool
         ensures { result ≡ met_before self.now.bytes.now self.now.part self.now.so_far.sections name.now }
     {
-        let Sections { directories, links } = self.so_far.sections;
-        let files = Span {
-            start: 0,
-            end: directories,
-        };
-        let directories = Span {
-            start: directories,
-            end: links,
-        };
+        let files = self.so_far.sections.files_span();
+        let directories = self.so_far.sections.directories_span();
+        // Each part has sections of its own before it.
         match self.part {
             Part::Files => false,
             Part::Directories => has_name(self.bytes, files, name),

@@ -2,7 +2,7 @@ use crate::mark::Mark;
 
 pub mod calls;
 
-// Three types, and not one with a parameter, since what each takes and where it leads differ.
+// Three types, each moved into the next, and not one with a parameter: what each takes and where it leads differ.
 
 // A writer in its files part.
 #[derive(Drop)]

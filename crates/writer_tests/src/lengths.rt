@@ -12,13 +12,11 @@ fn longest_buffer(rt: HostRuntime) -> Result<(), Fail> {
     assert_eq!(rt; files.put(buffer.as_mut_slice(), b"a", b"")?, Ok(()));
     check_end(&rt, files.directories().links(), buffer.as_slice(), 73)?;
     buffer.push(0xAA)?;
-    match Files::start(buffer.as_slice()) {
-        Ok(_) => Err(Fail::new("it started")),
-        Err(fault) => {
-            assert_eq!(rt; (fault.number(), fault.place()), (5, 0));
-            Ok(())
-        },
-    }
+    let fault = Files::start(buffer.as_slice())
+        .err()
+        .ok_or("it started")?;
+    assert_eq!(rt; (fault.number(), fault.place()), (5, 0));
+    Ok(())
 }
 
 // A buffer of 300 bytes, lent with other lengths in each part: also without the bytes so far, and with bad nodes.

@@ -44,13 +44,11 @@ pub fn started(buffer: &[u8]) -> Result<Files, Fail> {
 
 // The end of a Directory of so many bytes.
 pub fn check_end(rt: &impl Abort, links: Links, buffer: &[u8], count: usize) -> Result<(), Fail> {
-    match links.end(buffer) {
-        Ok(found) => {
-            assert_eq!(rt; found, count);
-            Ok(())
-        },
-        Err(back) => Err(Fail::new(back.1.number())),
-    }
+    let found = links
+        .end(buffer)
+        .map_err(|(_, fault)| Fail::new(fault.number()))?;
+    assert_eq!(rt; found, count);
+    Ok(())
 }
 
 // An end that is refused, and the writer that it gives back.
@@ -61,13 +59,9 @@ pub fn check_no_end(
     number: u8,
     place: usize,
 ) -> Result<Links, Fail> {
-    match links.end(buffer) {
-        Ok(_) => Err(Fail::new("it ended")),
-        Err(back) => {
-            assert_eq!(rt; (back.1.number(), back.1.place()), (number, place));
-            Ok(back.0)
-        }
-    }
+    let (links, fault) = links.end(buffer).err().ok_or("it ended")?;
+    assert_eq!(rt; (fault.number(), fault.place()), (number, place));
+    Ok(links)
 }
 
 // A writer in one of its parts.

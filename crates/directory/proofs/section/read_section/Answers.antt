@@ -1,8 +1,10 @@
 use Rattle.std.proofs.Common.{◌≡◌, ℕ, ◌-◌, true, List, [], length, take, drop, Ok, sym, ap, ◌∙◌, subst, arith}
 use Rattle.texts.specs.Order.{before}
+use Rattle.wire.specs.declared.field.Span.{Span}
 use Rattle.wire.specs.Refusals.{reported}
 use Rattle.nodes.specs.Kinds.{part}
-use Rattle.directory.specs.Regions.{past}
+use Rattle.directory.specs.Directories.{files_at, directories_at}
+use Rattle.directory.specs.Regions.{names_in, past}
 use Rattle.directory.specs.Sections.{among, section}
 use Rattle.directory.specs.Steps.{met_in, earlier_names, ends}
 use Rattle.directory.proofs.Places.{refused_by}
@@ -28,7 +30,9 @@ loop-progress-init g c =
     let p = c.args.start in
     let e = no_name m p in
     let z = ap length e in
-    (length (drop p m), [], omega arith, omega arith, omega arith, omega arith, passed_none _ [] _ c.requires.0, passed_none _ [] _ c.requires.1, ap (λ t. ends (section k.code k.reads (λ n. among n (earlier_names m c.args.before)) (length (drop p m)) (record { text = t; place = p; rest = [] }) p (drop p m))) (sym e))
+    let left : (all now : Span) → now ≡ all → Passed (part m (record { start = p; end = p })) (names_in m all) (names_in m all) → Passed (part m (record { start = p; end = p })) (names_in m all) (names_in m now) =
+    λ all now is h. subst (λ s. Passed (part m (record { start = p; end = p })) (names_in m all) (names_in m s)) (sym is) h in
+    (length (drop p m), [], omega arith, omega arith, omega arith, omega arith, left (files_at c.args.before) _ c.files_span-files.ensures (passed_none _ [] _ c.requires.0), left (directories_at c.args.before) _ c.directories_span-directories.ensures (passed_none _ [] _ c.requires.1), ap (λ t. ends (section k.code k.reads (λ n. among n (earlier_names m c.args.before)) (length (drop p m)) (record { text = t; place = p; rest = [] }) p (drop p m))) (sym e))
 
 pub returns-in_err-progress : goal.returns-in_err-progress
 returns-in_err-progress g c =
