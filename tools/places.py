@@ -36,7 +36,7 @@ show('3 loops over an index or a place', found(r'^ *(while (?!let)|loop |for \w+
 show('4a impls by hand', found(r'^impl.* (PartialEq|Eq|PartialOrd|Ord|Clone|Copy|fmt::Display|Display|Debug) for .*$'))
 show('4b conversions by hand', found(r'^ *(pub )?fn (number|from_\w+|to_\w+)\(.*$'))
 show('6 buffers beside a length', found(r'^ +(pub )?\w+: \[u\d+; \d+\],\n +(pub )?len: usize,$'))
-show('7 steps chosen by a value, function tables', found(r'^.*(\bfn\(|dyn |== Part::|match part).*$'))
+show('7 steps chosen by a value, function tables', found(r'^.*(\bfn\(|dyn |== Part::|match (?:self\.)?part).*$'))
 
 bodies = collections.defaultdict(list)
 pairs = collections.defaultdict(list)
@@ -45,7 +45,7 @@ for f in files:
     for m in re.finditer(r'^( *)(?:pub )?fn (\w+)(?:<[^(]*>)?\(([^)]*)\)(.*?)^\1\{\n(.*?)^\1\}$', text[f], re.M | re.S):
         name = f"{f.split('/')[1]}::{m.group(2)}"
         shape = re.sub(r'\b(0x[0-9A-Fa-f_]+|\d[\d_]*|[a-z_]\w*)\b', '_', re.sub(r'\s+', ' ', m.group(5)))
-        if len(shape) > 60 and '_tests' not in f:
+        if len(shape) > 24 and '_tests' not in f:
             bodies[shape].append(name)
         params = sorted(re.sub(r'\s+', ' ', p.strip()).lstrip('_') for p in m.group(3).split(',') if ':' in p)
         for i, a in enumerate(params):

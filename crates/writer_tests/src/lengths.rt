@@ -12,9 +12,7 @@ fn longest_buffer(rt: HostRuntime) -> Result<(), Fail> {
     assert_eq!(rt; files.put(buffer.as_mut_slice(), b"a", b"")?, Ok(()));
     check_end(&rt, files.directories().links(), buffer.as_slice(), 73)?;
     buffer.push(0xAA)?;
-    let fault = Files::start(buffer.as_slice())
-        .err()
-        .ok_or("it started")?;
+    let fault = Files::start(buffer.as_slice()).err().ok_or("it started")?;
     assert_eq!(rt; (fault.number(), fault.place()), (5, 0));
     Ok(())
 }
