@@ -41,6 +41,7 @@ impl Sections {
 }
 
 // What was read of a Directory up to some section: where the sections are, and where the last name of the latest is, an empty part at its start if it has none.
+// No Option: no name is empty, and an empty one stands before every other, so that the first name needs no case of its own.
 #[derive(Clone, Copy)]
 pub struct SoFar {
     pub sections: Sections,
