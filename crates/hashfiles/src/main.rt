@@ -31,6 +31,7 @@ fn run(rt: &HostRuntime) -> anyhow::Result<()> {
     for name in env::args(rt)?.skip(1) {
         let mut file = File::open(rt, &name)?;
         let n = fill(&mut file, &mut buffer)?;
+        // A fault has a number and no text, so the text is given here.
         let hash = sha256(&buffer[..n])
             .ok()
             .context("a file has more than 16777216 bytes")?;

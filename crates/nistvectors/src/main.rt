@@ -64,6 +64,7 @@ fn messages(heap: Global, text: &str) -> anyhow::Result<Tally> {
 
 fn is_hash(message: &[u8], bits: usize, md: &str) -> anyhow::Result<bool> {
     let expected = hash_of(md)?;
+    // A fault has a number and no text, so the text is given here and below.
     let hash = sha256(message)
         .ok()
         .context("a message of the file is too long")?;

@@ -68,7 +68,7 @@ pub fn field_length(text: &[u8]) -> usize
     1 + number_length(text.len() as u64) + text.len()
 }
 
-// Writes a field from a place of the buffer on, and answers the place behind it.
+// Writes a field from a place of the buffer on, and answers the place behind it. Its head, a tag and a number, is two lines here and in `nodes`, and a function for it would be no plainer.
 pub fn write_field(
     buffer: &mut [u8],
     start: usize,

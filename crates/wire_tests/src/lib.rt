@@ -183,9 +183,7 @@ mod of_nodes {
             (b"\x0A\x01b\x12\x01a\x1A", Err((13, 6))),
         ];
         for (message, expected) in rows {
-            let read = <LinkNode as nodes::NodeKind>::read_rest(message, 3).map(|link| link
-                .target
-                .start);
+            let read = LinkNode::read_rest(message, 3).map(|link| link.target.start);
             assert!(rt; read.map_err(told) == expected);
         }
     }
@@ -204,7 +202,7 @@ mod of_nodes {
         ];
         for (lengths, behind, expected) in rows {
             let node = file_a(rt.alloc(), lengths, behind)?;
-            match <FileNode as nodes::NodeKind>::read_rest(node.as_slice(), 5) {
+            match FileNode::read_rest(node.as_slice(), 5) {
                 Ok(file) => assert!(rt;
                     expected == Ok(file.executable) && file.digest == Digest::of(b"")?
                 ),
@@ -214,7 +212,7 @@ mod of_nodes {
         let mut node = file_a(rt.alloc(), [0x47, 0x42], b"")?;
         node.truncate(72);
         node.push(b'G')?;
-        let fault = <FileNode as nodes::NodeKind>::read_rest(node.as_slice(), 5)
+        let fault = FileNode::read_rest(node.as_slice(), 5)
             .err()
             .ok_or("a capital letter was read")?;
         assert!(rt; told(fault) == (14, 9));
@@ -229,9 +227,7 @@ mod of_nodes {
             digest,
             executable: true,
         };
-        assert!(rt;
-            <FileNode as nodes::NodeKind>::write_rest(&file, b"", &mut buffer, 5).ok() == Some(75)
-        );
+        assert!(rt; FileNode::write_rest(&file, b"", &mut buffer, 5).ok() == Some(75));
         let node = file_a(rt.alloc(), [0x49, 0x42], b"\x20\x01")?;
         let expected = node.as_slice();
         assert!(rt; expected.len() == 75);
@@ -257,26 +253,18 @@ mod of_nodes {
         assert!(rt; plain.write(&mut whole, 3).ok() == Some(76));
         assert!(rt; plain.write(&mut whole, 4).is_err());
         let directory = DirectoryNode { digest };
-        assert!(rt;
-            <DirectoryNode as nodes::NodeKind>::write_rest(&directory, b"", &mut buffer, 8).ok()
-                == Some(76)
-        );
+        assert!(rt; DirectoryNode::write_rest(&directory, b"", &mut buffer, 8).ok() == Some(76));
         assert!(rt; buffer[8..76] == expected[5..73]);
-        assert!(rt;
-            <DirectoryNode as nodes::NodeKind>::write_rest(&directory, b"", &mut buffer, 9).is_err()
-        );
+        assert!(rt; DirectoryNode::write_rest(&directory, b"", &mut buffer, 9).is_err());
         Ok(())
     }
 
     #[test]
     fn a_link_read_is_written_again(rt: HostRuntime) -> Result<(), Fail> {
         let message = b"\x0A\x01b\x12\x02..";
-        let link: LinkNode = <LinkNode as nodes::NodeKind>::read_rest(message, 3)?;
+        let link: LinkNode = LinkNode::read_rest(message, 3)?;
         let mut buffer = [0; 4];
-        assert!(rt;
-            <LinkNode as nodes::NodeKind>::write_rest(&link, message, &mut buffer, 0).ok()
-                == Some(4)
-        );
+        assert!(rt; LinkNode::write_rest(&link, message, &mut buffer, 0).ok() == Some(4));
         assert!(rt; buffer == [0x12, 0x02, b'.', b'.']);
         Ok(())
     }

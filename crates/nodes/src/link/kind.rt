@@ -91,7 +91,7 @@ fn judge_target(target: &[u8], place: usize) -> Result<(), ReadFault>
     Ok(())
 }
 
-// The part of a text between two places, as far as the text goes.
+// The part of a text between two places, as far as the text goes. Spans that a reader has answered are sliced and not cut: they lie inside.
 pub fn part_of(text: &[u8], span: Span) -> &[u8]
     ensures { result.now ≡ part text.now span }
 {
