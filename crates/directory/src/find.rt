@@ -56,6 +56,7 @@ pub fn find_node(bytes: &[u8], place: usize) -> Result<FoundNode, ReadFault>
     ensures places { IfOk result (TargetPlace bytes.now) }
     ensures listed { NodesReadAreFound }
 {
+    // Each tag stands beside its kind, as in the format.
     match bytes.get(place) {
         Some(0x0A) => find_as::<FileNode>(bytes, place).map(|node| node.map(Kind::File)),
         Some(0x12) => find_as::<DirectoryNode>(bytes, place).map(|node| node.map(Kind::Directory)),

@@ -20,7 +20,8 @@ fn node_front(message: &[u8], at: usize) -> Option<(&[u8], usize)>
 }
 
 // What is left of a region of nodes once those are passed whose names stand before a name, or nothing where the next has this name.
-// The order is `precedes`, which is promised, and no `cmp` of std.
+// The order is `precedes`, which is promised, and no `cmp` of std. `at` is no index: each node ends where the next begins.
+// `message` and `name` are no struct: a name that is sought may lie elsewhere.
 fn pass(message: &[u8], region: Span, name: &[u8]) -> Option<Span>
     ensures left { IfSome result (λ r. names_in message.now r ≡ past name.now (names_in message.now region)) }
     ensures met { is_none result ≡ met name.now (names_in message.now region) }

@@ -24,7 +24,7 @@ pub fn spelled(heap: Global, parts: &[&[u8]]) -> Result<Vec<u8>, Fail> {
     Ok(bytes)
 }
 
-// The number and the place of a refusal.
+// The number and the place of a refusal. Each crate of tests stands alone.
 pub fn numbered(fault: ReadFault) -> (u8, usize) {
     (fault.case.number(), fault.place)
 }

@@ -21,7 +21,7 @@ impl<'a, K: NodeKind> NewNode<'a, K> {
         field_length(self.name).saturating_add(self.rest.rest_length(self.text))
     }
 
-    // Whether it fits the buffer from a place on.
+    // Whether it fits the buffer from a place on. A bool, since a writer that asks has other faults to tell first.
     pub fn fits(&self, buffer: &[u8], start: usize) -> bool
         ensures { result ≡ has_room buffer.now start (bytes_of K.NodeKind.code K.NodeKind.writes K.NodeKind.rest_in self.now) }
     {

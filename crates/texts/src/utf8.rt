@@ -9,6 +9,7 @@ fn is_tail(text: &[u8], i: usize) -> bool
 }
 
 // How many bytes the character at the front takes, if there is one.
+// A match, and no `from_utf8` of std in `is_text`: the nine rows are a rule of the project, and each is turned by an edit.
 fn char_width(text: &[u8]) -> Option<usize>
     ensures { result ≡ char_width text.now }
 {

@@ -4,7 +4,7 @@
 #[cfg(test)]
 use wire::ReadFault;
 
-// A refusal's number and place.
+// A refusal's number and place. Each crate of tests stands alone, with its own of this and of the hash text below.
 #[cfg(test)]
 fn told(fault: ReadFault) -> (u8, usize) {
     (fault.case.number(), fault.place)

@@ -38,6 +38,7 @@ impl NodeKind for FileNode {
 
     fn read_rest(message: &[u8], start: usize) -> Result<FileNode, ReadFault> {
         let Span { start: first, end } = read_field(message, start, 0x12)?;
+        // As a directory reads it: a function for both lines would have to answer the end too.
         let digest = read_digest(&message[0..end], first)?;
         let mark = read_last_number(message, end, 0x20, 1)?;
         Ok(FileNode {

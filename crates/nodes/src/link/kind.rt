@@ -72,7 +72,7 @@ impl NodeKind for LinkNode {
     }
 }
 
-// Sees that a target that stands at a place is text and keeps its rule. `read_name` has the same steps: with the rule as a parameter they would be no shorter.
+// Sees that a target that stands at a place is text and keeps its rule. `read_name` has the same two steps: their rules and numbers would stand at each call as parameters.
 fn judge_target(target: &[u8], place: usize) -> Result<(), ReadFault>
     ensures { reported result ≡ target_at place target.now }
 {

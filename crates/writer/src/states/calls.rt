@@ -57,7 +57,7 @@ impl Files {
 }
 
 impl Directories {
-    // Adds a directory.
+    // Adds a directory. As a file is added, with its own part and kind: the body is one call.
     pub fn add(
         &mut self,
         buffer: &mut [u8],
