@@ -1,10 +1,10 @@
 -- Arrays made from their elements, and texts read pair by pair. Assumes nothing.
-use Rattle.std.proofs.Common.{◌≡◌, ℕ, zero, suc, ◌+◌, ◌*◌, ◌%◌, ◌<◌, ◌≤◌, Bool, true, false, ◌&&◌, List, [], ◌∷◌, ◌++◌, length, map, get_or, take, drop, Ok, sym, refl, ap, ◌∙◌, subst, ⊎_elim, mod-eq_of_lt, arith}
+use Rattle.std.proofs.Common.{◌≡◌, ℕ, zero, suc, ◌+◌, ◌*◌, ◌%◌, ◌<◌, ◌≤◌, Bool, true, false, ◌&&◌, List, [], ◌∷◌, ◌++◌, length, map, get_or, drop, Ok, sym, refl, ap, ◌∙◌, subst, ⊎_elim, mod-eq_of_lt, arith}
 use mathlib.Core.Bool.{and_assoc}
 use denote.Param.Members.{Mut}
 use Rattle.std.proofs.lemmas.Bool.{cases_eq, and_parts, and_from, eq-eqb, cond-true}
-use Rattle.std.proofs.lemmas.List.{drop-drop, ext_get_or, get_or-drop, get_or-map, get_or-take, length-map}
-use Rattle.std.specs.Array.{IsMapOf, IsFromFnResult, IsFromFnResultFrom}
+use Rattle.std.proofs.lemmas.List.{ext_get_or, same_lists, get_or-drop, get_or-map, get_or-take, length-map}
+use Rattle.std.specs.Array.{MapsFrom, IsMapOf, IsFromFnResult, IsFromFnResultFrom}
 use Rattle.std.specs.Fn.{Called}
 use Rattle.std.specs.List.{flat_map, fold}
 use Rattle.std.specs.Simd.{first_chunks}
@@ -12,14 +12,25 @@ use Rattle.hash.specs.Bytes.{words_of}
 use Rattle.hash.specs.Text.{is_hex, every_hex, hex_value, spelled, is_hash_text, hash_of}
 use Rattle.hash.proofs.Inverse.{value_below}
 
--- calls that give h of each element
-pub mapped : {F A B : Type 0} (g : Mut F (A × Unit {0}) B) (f : F) (xs : List A) (ys : List B) (n : ℕ) (h : A → B) (d : A) (e : B) → IsMapOf g f xs ys n → length xs ≡ n
-    → ((p : F) (x : A) (y : B) (q : F) → Called g p (x, tt) y q → y ≡ h x) → ys ≡ map h xs
-mapped g f xs ys n h d e m long gives =
-    ext_get_or e ys (map h xs) (m.long ∙ sym long ∙ sym (length-map xs h)) (λ i l.
-    let within : i < length xs = omega (arith, m.long) in
-    let k = m.at i d e (omega (arith, m.long)) in
-    gives k.0 _ _ k.1 k.2 ∙ sym (get_or-map h xs i d e within))
+-- what an array's `map` gives, where each call leaves the closure as it was
+module _ {F A B : Type 0} (g : Mut F (A × Unit {0}) B) (f : F) (h : A → B) (same : (x : A) (y : B) (q : F) → Called g f (x, tt) y q → (q ≡ f) × (y ≡ h x)) where
+  mapped_at : (p : F) (xs : List A) (ys : List B) (i n k : ℕ) (e : B) → p ≡ f → MapsFrom g p xs ys i n → i + n ≤ length xs → k < n → get_or ys (i + k) e ≡ get_or (map h xs) (i + k) e
+  mapped_at p xs ys i zero k e is m within below = absurd (omega (arith, below))
+  mapped_at p xs ys i (suc n) zero e is m within below =
+      let gives = same m.1 m.2 m.0 (subst (λ s. Called g s (m.1, tt) m.2 m.0) is m.5) in
+      let here : i ≡ i + 0 = omega arith in
+      subst (λ j. get_or ys j e ≡ get_or (map h xs) j e) here (m.4.1 e ∙ gives.1 ∙ ap h (sym m.3.0) ∙ sym (get_or-map h xs i m.1 e (omega arith)))
+  mapped_at p xs ys i (suc n) (suc k) e is m within below =
+      let gives = same m.1 m.2 m.0 (subst (λ s. Called g s (m.1, tt) m.2 m.0) is m.5) in
+      let next : i + 1 + k ≡ i + suc k = omega arith in
+      subst (λ j. get_or ys j e ≡ get_or (map h xs) j e) next (mapped_at m.0 xs ys (i + 1) n k e gives.0 m.6 (omega arith) (omega arith))
+
+  pub mapped : (xs : List A) (ys : List B) (n : ℕ) → length xs ≡ n → IsMapOf g f xs ys n → ys ≡ map h xs
+  mapped xs ys n long m =
+      same_lists ys (map h xs) (m.long ∙ sym (length-map xs h ∙ long))
+      (λ k e l.
+      let here : 0 + k ≡ k = omega arith in
+      subst (λ j. get_or ys j e ≡ get_or (map h xs) j e) here (mapped_at f xs ys 0 n k e refl m.each (omega arith) (omega (arith, m.long))))
 
 pub flattened : {A B : Type 0} (f : A → List B) (xs : List A) → flat_map (λ x. x) (map f xs) ≡ flat_map f xs
 flattened f [] = refl
@@ -39,18 +50,16 @@ module _ {F B : Type 0} (g : Mut F (ℕ × Unit {0}) B) (f : F) (h : ℕ → B) 
   pub made : (ys : List B) (e : B) → IsFromFnResult g f ys top → (k : ℕ) → k < top → get_or ys k e ≡ h k
   made ys e m k high = made_from ys e 0 top (omega arith) m.each k (omega arith) (omega arith)
 
--- the i-th chunk of n elements
-pub chunk_at : (n k : ℕ) (xs : List ℕ) (i : ℕ) → i < k → get_or (first_chunks n k xs) i [] ≡ take n (drop (n * i) xs)
-chunk_at n zero xs i h = absurd (omega arith)
-chunk_at n (suc k) xs zero h = let z : 0 ≡ n * 0 = omega arith in ap (λ j. take n (drop j xs)) z
-chunk_at n (suc k) xs (suc i) h =
-    let e : n + n * i ≡ n * suc i = omega arith in
-    chunk_at n k (drop n xs) i (omega arith) ∙ ap (take n) (drop-drop (n * i) n xs) ∙ ap (λ j. take n (drop j xs)) e
-
--- the j-th element of the i-th chunk
-pub in_chunk : (n k : ℕ) (xs : List ℕ) (i j : ℕ) → i < k → j < n → get_or (get_or (first_chunks n k xs) i []) j 0 ≡ get_or xs (n * i + j) 0
-in_chunk n k xs i j h l =
-    ap (λ c. get_or c j 0) (chunk_at n k xs i h) ∙ get_or-take n (drop (n * i) xs) j 0 l ∙ get_or-drop (n * i) xs j 0
+-- the j-th element of the i-th chunk of n
+module _ {X : Type 0} (n : ℕ) where
+  pub in_chunk : (k : ℕ) (xs : List X) (i j : ℕ) (d : X) → i < k → j < n → get_or (get_or (first_chunks n k xs) i []) j d ≡ get_or xs (n * i + j) d
+  in_chunk zero xs i j d h within = absurd (omega (arith, h))
+  in_chunk (suc k) xs zero j d h within =
+      let at : j ≡ n * 0 + j = omega arith in
+      get_or-take n xs j d within ∙ ap (λ e. get_or xs e d) at
+  in_chunk (suc k) xs (suc i) j d h within =
+      let at : n + (n * i + j) ≡ n * suc i + j = omega arith in
+      in_chunk k (drop n xs) i j d (omega arith) within ∙ get_or-drop n xs (n * i + j) d ∙ ap (λ e. get_or xs e d) at
 
 -- whether every character is hexadecimal, one after the other
 pub every_folded : (so_far : Bool) (text : List ℕ) → fold (λ every c. every && is_hex c) so_far text ≡ (so_far && every_hex text)
@@ -93,8 +102,8 @@ pub pair_at : (text : List ℕ) (n i : ℕ) → every_hex text ≡ true → leng
     → pair_value (get_or (first_chunks 2 n text) i []) ≡ hex_value (get_or text (2 * i) 0) * 16 + hex_value (get_or text (2 * i + 1) 0)
 pair_at text n i every long h =
     let z : 2 * i + 0 ≡ 2 * i = omega arith in
-    let a = in_chunk 2 n text i 0 h (omega arith) ∙ ap (λ j. get_or text j 0) z in
-    let b = in_chunk 2 n text i 1 h (omega arith) in
+    let a = in_chunk 2 n text i 0 0 h (omega arith) ∙ ap (λ j. get_or text j 0) z in
+    let b = in_chunk 2 n text i 1 0 h (omega arith) in
     let high = value_below (get_or text (2 * i) 0) (hex_at text (2 * i) every (omega arith)) in
     let low = value_below (get_or text (2 * i + 1) 0) (hex_at text (2 * i + 1) every (omega arith)) in
     (λ k. (hex_value (a k) * 16 + hex_value (b k)) % 256) ∙ mod-eq_of_lt (omega arith)

@@ -1,5 +1,5 @@
 -- The blocks of a text, one after the other. Assumes nothing.
-use Rattle.std.proofs.Common.{◌≡◌, ℕ, zero, suc, ◌+◌, ◌*◌, ◌/◌, ◌<◌, ◌≤◌, List, [], ◌∷◌, ◌++◌, length, get_or, take, drop, fold, sym, refl, ap, ◌∙◌, add-one, arith, lit<, w32, length-append, length-drop, length-take-le, get_or-take, get_or-drop}
+use Rattle.std.proofs.Common.{◌≡◌, ℕ, zero, suc, ◌+◌, ◌*◌, ◌/◌, ◌<◌, ◌≤◌, List, [], ◌∷◌, ◌++◌, length, get_or, take, drop, fold, sym, refl, ap, ◌∙◌, add-one, arith, lit<, w32, length-append, length-drop, length-take-le}
 use Rattle.std.proofs.Math.Seq.{take-add}
 use Rattle.std.proofs.lemmas.List.{take-append-le, drop-append-le, drop-drop}
 use Rattle.std.proofs.lemmas.List.Sums.{fold-append}
@@ -9,17 +9,8 @@ use Rattle.hash.specs.Bytes.{word}
 use Rattle.sha256.specs.declared.state.State.{State}
 use Rattle.sha256.specs.Sha256.{H₀, block, compressed, absorbed, padding, padded}
 
--- the chunks of a list, by their elements, and p of them before q more
+-- how long the chunks of a list are, and p of them before q more
 module _ {X : Type 0} (n : ℕ) where
-  pub in_chunk : (k : ℕ) (xs : List X) (i j : ℕ) (d : X) → i < k → j < n → get_or (get_or (first_chunks n k xs) i []) j d ≡ get_or xs (n * i + j) d
-  in_chunk zero xs i j d h within = absurd (omega (arith, h))
-  in_chunk (suc k) xs zero j d h within =
-      let at : j ≡ n * 0 + j = omega arith in
-      get_or-take n xs j d within ∙ ap (λ e. get_or xs e d) at
-  in_chunk (suc k) xs (suc i) j d h within =
-      let at : n + (n * i + j) ≡ n * suc i + j = omega arith in
-      in_chunk k (drop n xs) i j d (omega arith) within ∙ get_or-drop n xs (n * i + j) d ∙ ap (λ e. get_or xs e d) at
-
   pub chunk_long : (k : ℕ) (xs : List X) (i : ℕ) → i < k → n * k ≤ length xs → length (get_or (first_chunks n k xs) i []) ≡ n
   chunk_long zero xs i h within = absurd (omega (arith, h))
   chunk_long (suc k) xs zero h within = length-take-le n xs (omega arith)

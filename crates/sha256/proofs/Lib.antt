@@ -1,6 +1,5 @@
 pub mod Absorbing
 pub mod Endings
 pub mod Laws
-pub mod Mapped
 pub mod Rounds
 pub mod Rows

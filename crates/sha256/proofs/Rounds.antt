@@ -5,7 +5,7 @@ use Rattle.std.specs.Simd.{first_chunks}
 use Rattle.std.proofs.lemmas.Bool.{lt-ltb, le-ltb}
 use Rattle.hash.specs.Bytes.{word}
 use Rattle.sha256.specs.declared.state.State.{State}
-use Rattle.sha256.proofs.Absorbing.{in_chunk}
+use Rattle.hash.proofs.Arrays.{in_chunk}
 use Rattle.sha256.specs.Sha256.{K, next, entry, schedule, round, rounds}
 
 schedule_more : (m : List ℕ) (t : ℕ) → schedule m (t + 1) ≡ schedule m t ++ entry m t (schedule m t) ∷ []

@@ -2,7 +2,7 @@ use Rattle.std.proofs.Common.{◌≡◌, length, map, rules, sym, ap, ◌∙◌}
 use Rattle.std.proofs.lemmas.List.{length-map}
 use Rattle.std.proofs.lemmas.Simd.{map-map}
 use Rattle.hash.specs.Bytes.{word}
-use Rattle.sha256.proofs.Mapped.{mapped}
+use Rattle.hash.proofs.Arrays.{mapped}
 use Rattle.sha256.proofs.lanes.word_row.Goals as goal
 
 pub returns : goal.returns

@@ -1,7 +1,8 @@
 use Rattle.std.proofs.Common.{◌/◌, [], get_or, w32, ap, ◌∙◌}
 use Rattle.std.specs.Int.{from_be_bytes}
 use Rattle.std.specs.Simd.{first_chunks}
-use Rattle.sha256.proofs.Absorbing.{in_chunk, word_in_chunk}
+use Rattle.hash.proofs.Arrays.{in_chunk}
+use Rattle.sha256.proofs.Absorbing.{word_in_chunk}
 use Rattle.sha256.proofs.schedule.block_word.Goals as goal
 
 pub returns : goal.returns
