@@ -80,7 +80,7 @@ section_read (Err d) with e h = absurd (not_ok (sym h))
 abbrev pub none : Sections
 none = record { directories = 0; links = 0 }
 
-none-names : (m : List ℕ) → earlier_names m none ≡ []
+pub none-names : (m : List ℕ) → earlier_names m none ≡ []
 none-names m i = nowhere m i ++ nowhere m i
 
 module _ (m : List ℕ) (small : length m ≤ 16777216) where

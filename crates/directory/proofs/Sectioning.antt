@@ -92,10 +92,10 @@ module _ {V : Type 0} (t : ℕ) (reads : ℕ → List ℕ → Result V Refusal) 
   stops_empty (suc f) prev p = refl
 
   module _ (m : List ℕ) (at : ℕ) (f : ℕ) (prev : Piece) where
-    stop_at_end : length m ≤ at → ends (section t reads taken f prev at (drop at m)) ≡ Ok (record { last = span_of prev; end = at })
+    pub stop_at_end : length m ≤ at → ends (section t reads taken f prev at (drop at m)) ≡ Ok (record { last = span_of prev; end = at })
     stop_at_end h = ap ends (ap (section t reads taken f prev at) (drop_all at m h) ∙ stops_empty f prev at)
 
-    stop_at_other : at < length m → (get_or m at 0 ≡ t → ⊥) → ends (section t reads taken f prev at (drop at m)) ≡ Ok (record { last = span_of prev; end = at })
+    pub stop_at_other : at < length m → (get_or m at 0 ≡ t → ⊥) → ends (section t reads taken f prev at (drop at m)) ≡ Ok (record { last = span_of prev; end = at })
     stop_at_other h n = ap ends (ap (section t reads taken f prev at) (drop_more m at 0 h) ∙ stops f prev at _ _ n)
 
     pub stop_at : (length m ≤ at) ⊎ ((at < length m) × (get_or m at 0 ≡ t → ⊥)) → ends (section t reads taken f prev at (drop at m)) ≡ Ok (record { last = span_of prev; end = at })

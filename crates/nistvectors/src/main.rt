@@ -116,6 +116,9 @@ fn bytes_of(heap: Global, text: &str, count: usize) -> anyhow::Result<Vec<u8>> {
         "a message of the file is not hexadecimal"
     );
     let (pairs, _) = text.as_bytes().as_chunks::<2>();
-    let bytes = hex::decode(heap, pairs[..count.min(pairs.len())].as_flattened())?;
+    let pairs = &pairs[..count.min(pairs.len())];
+    // Want of memory is told as it is everywhere else: hex's own `decode` has another text for it.
+    let mut bytes = vec![in heap; 0; pairs.len()]?;
+    hex::decode_to_slice(pairs.as_flattened(), &mut bytes)?;
     Ok(bytes)
 }

@@ -18,4 +18,4 @@ pub use kind::NodeKind;
 pub use link::LinkNode;
 pub use link::kind::part_of;
 pub use name::read_name;
-pub use node::NewNode;
+pub use node::{NewNode, node_has_room, write_node};

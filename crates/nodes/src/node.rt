@@ -1,6 +1,6 @@
 ghost use Rattle.std.specs.Prelude.{◌≡◌, ◌-◌, ◌^◌, length, min};
 ghost use Rattle.wire.specs.Writing.{told, ending, after, has_room};
-ghost use Rattle.nodes.specs.Nodes.{message_of, bytes_of};
+ghost use Rattle.nodes.specs.Nodes.{message_of, bytes_of, node_bytes};
 
 use crate::kind::NodeKind;
 use wire::{WriteFault, end_of, field_length, number_length, write_field, write_number};
@@ -43,4 +43,31 @@ impl<'a, K: NodeKind> NewNode<'a, K> {
         let rest_at = write_field(buffer, name_at, 0x0A, self.name)?;
         self.rest.write_rest(self.text, buffer, rest_at)
     }
+}
+
+// Whether a node, told by its parts, fits the buffer from a place on.
+pub fn node_has_room<K: NodeKind>(
+    name: &[u8],
+    rest: &K,
+    text: &[u8],
+    buffer: &[u8],
+    start: usize,
+) -> bool
+    ensures { result ≡ has_room buffer.now start (node_bytes K.NodeKind.code name.now (K.NodeKind.writes (K.NodeKind.rest_in text.now rest.now))) }
+{
+    NewNode { name, rest, text }.fits(buffer, start)
+}
+
+// Writes a node, told by its parts, from a place of the buffer on, and answers the place behind it.
+pub fn write_node<K: NodeKind>(
+    name: &[u8],
+    rest: &K,
+    text: &[u8],
+    buffer: &mut [u8],
+    start: usize,
+) -> Result<usize, WriteFault>
+    ensures answer { told result ≡ ending buffer.old start (node_bytes K.NodeKind.code name.now (K.NodeKind.writes (K.NodeKind.rest_in text.now rest.now))) }
+    ensures buffer { buffer.new ≡ after buffer.old start (node_bytes K.NodeKind.code name.now (K.NodeKind.writes (K.NodeKind.rest_in text.now rest.now))) }
+{
+    NewNode { name, rest, text }.write(buffer, start)
 }

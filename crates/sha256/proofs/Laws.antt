@@ -11,7 +11,7 @@ pub examples : Examples
 unfolding sha256 absorbed padded padding compressed rounds schedule
 examples = (refl, refl)
 
-fewest_zeros : FewestZeros
+pub fewest_zeros : FewestZeros
 fewest_zeros n = (omega arith, λ z h. omega arith)
 
 pub whole_blocks : WholeBlocks

@@ -9,7 +9,7 @@ use Rattle.wire.proofs.Finding.{not_ok, same_ok}
 use Rattle.wire.proofs.Forms.{number_is_read_back, form_is_the_only_one}
 
 -- what an answer of `number_at` says of the number in front
-number_found : (p n k : ℕ) (o : Option (ℕ × ℕ)) → Ok (n, k) ≡ or_refused p o → o ≡ Some (n, k)
+pub number_found : (p n k : ℕ) (o : Option (ℕ × ℕ)) → Ok (n, k) ≡ or_refused p o → o ≡ Some (n, k)
 number_found p n k None e = absurd (let z : ◌≡◌ {A = ℕ} 0 1 = cc in omega arith)
 number_found p n k (Some y) e = cc
 
