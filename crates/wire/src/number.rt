@@ -23,7 +23,7 @@ fn number_in_front(bytes: &[u8]) -> Option<(u64, usize)>
     ensures { result ≡ front bytes.now }
 {
     let mut value = 0;
-    // By a range, and not over the first nine bytes: the compiler then counts the turns, and a number takes two thirds of the time.
+    // By a range, so that the compiler counts the turns: an iterator over the first nine bytes takes 1.4 to 1.6 times the instructions.
     for i in 0..9 {
         let byte = *bytes.get(i)?;
         value |= u64::from(byte & 0x7F) << (7 * i);
