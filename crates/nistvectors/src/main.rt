@@ -3,6 +3,7 @@
 
 use anyhow::{Context, ensure};
 use hash::Hash;
+use hex::FromHex;
 use sha256::sha256;
 use std::alloc::Global;
 use std::{fmt, fs};
@@ -111,14 +112,16 @@ fn hash_of(text: &str) -> anyhow::Result<Hash> {
 
 // The first `count` bytes of a message in hexadecimal.
 fn bytes_of(heap: Global, text: &str, count: usize) -> anyhow::Result<Vec<u8>> {
-    ensure!(
-        text.chars().all(|c| c.is_ascii_hexdigit()),
-        "a message of the file is not hexadecimal"
-    );
-    let (pairs, _) = text.as_bytes().as_chunks::<2>();
-    let pairs = &pairs[..count.min(pairs.len())];
-    // Want of memory is told as it is everywhere else: hex's own `decode` has another text for it.
-    let mut bytes = vec![in heap; 0; pairs.len()]?;
-    hex::decode_to_slice(pairs.as_flattened(), &mut bytes)?;
+    let refusal = "a message of the file is not hexadecimal";
+    let (pairs, odd) = text.as_bytes().as_chunks::<2>();
+    // A push for each byte: with memory taken at once, in the message's own size, some files need more in all.
+    let mut bytes = Vec::new(heap);
+    for pair in pairs {
+        let [byte] = <[u8; 1]>::from_hex(pair).ok().context(refusal)?;
+        if bytes.len() < count {
+            bytes.push(byte)?;
+        }
+    }
+    ensure!(odd.iter().all(u8::is_ascii_hexdigit), refusal);
     Ok(bytes)
 }
